@@ -211,7 +211,7 @@ rm name
 
 # the page
 gives "a page is written" 0 "$mexaldor" page db page.html
-check "with the picture of the sample" grep -q 'src="data:image/jpeg;base64,' page.html
+check "with the picture of the sample" grep -q '^<script type="text/plain">/9j/' page.html
 check "its day" grep -q '2024-05-01' page.html
 check "and its name" grep -q 'sample.jpg' page.html
 check "a click opens the file" grep -qF '<a class="open" href="many/sample.jpg">' page.html
@@ -231,11 +231,24 @@ mkdir kinds
 for kind in jpg webp heic tif png jxl raf orf rw2; do
     cp "files/whole.$kind" kinds
 done
+for name in thumb.cr3 far.tif far.orf cut.tif long.tif hevc.heic av1.avif both.heic; do
+    cp "files/$name" kinds
+done
 gives "pictures of each format have rows" 0 "$mexaldor" catalog -q -r kinds.db kinds
 gives "and a page" 0 "$mexaldor" page kinds.db kinds.html
-for kind in jpg webp heic tif png jxl raf orf rw2; do
-    check "the card of whole.$kind shows its thumbnail" sh -c 'grep -A2 "data-path=\"[^\"]*whole\.$1\"" kinds.html | grep -qF "src=\"data:image/jpeg;base64,/9j/2Q==\""' sh "$kind"
+# card NAME LINE: the card of a picture has this line for its thumbnail
+card() {
+    check "the card of $1 has $2" sh -c 'grep -A2 "data-path=\"[^\"]*/$1\"" kinds.html | grep -qxF "$2"' sh "$1" "$2"
+}
+for name in whole.jpg whole.webp whole.heic whole.tif whole.png whole.jxl whole.raf whole.orf whole.rw2 thumb.cr3 far.tif far.orf both.heic; do
+    card "$name" '<span class="thumb"></span>'
 done
+card cut.tif '<p class="none">Thumbnail not shown: cut off</p>'
+card long.tif '<p class="none">Thumbnail not shown: longer than 1 MiB</p>'
+card hevc.heic '<p class="none">Thumbnail not shown: HEVC</p>'
+card av1.avif '<p class="none">Thumbnail not shown: AV1</p>'
+check "each has its data, and no other has" test "$(grep -cxF '<script type="text/plain">/9j/2Q==</script>' kinds.html)" = 13
+check "all behind the cards" sh -c 'sed "1,/^<div hidden>/d" kinds.html | grep -c "^<script type=.text/plain" | grep -qx 13'
 rm many/plain.jpg
 gives "a picture that is gone is reported" 3 "$mexaldor" page --force db other.html
 says "by name" "many/plain.jpg: "
@@ -246,7 +259,8 @@ says "and the fault is reported" "files/faulty.jpg: 1 fault was skipped"
 if has chromium; then
     chromium --headless --no-sandbox --disable-gpu --window-size=800,600 --screenshot="$PWD/page.png" "file://$PWD/page.html" >/dev/null 2>&1
     check "chromium shows the page" test -s page.png
-    chromium --headless --no-sandbox --disable-gpu --dump-dom "file://$PWD/page.html" >dom 2>/dev/null
+    chromium --headless --no-sandbox --disable-gpu --virtual-time-budget=5000 --dump-dom "file://$PWD/page.html" >dom 2>/dev/null
     check "with its pictures" grep -q 'sample.jpg' dom
+    check "and their thumbnails" grep -q '<span class="thumb"><img alt="sample.jpg" src="data:image/jpeg;base64,/9j/' dom
 fi
 ends

@@ -65,6 +65,7 @@ if [ "$1" = try ]; then
     exit 3
 fi
 [ "$1" = doc ] && echo "$0.kit/doc"
+[ "$1" = lib ] && mkdir -p out/rlib
 [ "$1" = run ] && mkdir -p out && printf '#!/bin/sh\necho shown "$@"\n' >out/exif_show && chmod +x out/exif_show
 exit 0
 T

@@ -7,8 +7,8 @@ use Rattle.exif_text.specs.Dates.{parse_offset, read_date}
 use Rattle.exif_types.specs.ValueTypes.{count_of}
 use Rattle.exif_types.specs.declared.value.Value.{Value}
 use Rattle.exif_types.specs.declared.value.Value.TheVariants.{Byte, Ascii, Short, Long, Rational, Undefined, SRational}
-use Rattle.exif_clock.specs.Calendar.{is_day}
-use Rattle.exif_clock.specs.Shift.{stated}
+use Rattle.exif_datetime.specs.Calendar.{is_day}
+use Rattle.exif_datetime.specs.Shift.{stated}
 use Rattle.exif_assign.specs.Texts.{Quotient}
 use Rattle.exif_assign.specs.declared.rules.Form.{Form}
 use Rattle.exif_assign.specs.declared.rules.Form.TheVariants.{Any, Nothing, Count, Date, Day, Offset, Digits, Comment, Within, Listed, Fraction, Below, Degrees, Clock, Letter, Unit}

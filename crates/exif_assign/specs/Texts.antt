@@ -3,7 +3,7 @@ use Rattle.std.specs.Prelude.{◌≡◌, ⊤, ℕ, ℤ, pos, neg_ℤ, ◌+◌, �
 use Rattle.std.specs.Option.{option_and_then, option_map}
 use Rattle.exif_text.specs.declared.rational.Rational.{Rational}
 use Rattle.exif_text.specs.declared.rational.SRational.{SRational}
-use Rattle.exif_clock.specs.Numbers.{cut, number_below}
+use Rattle.exif_datetime.specs.Numbers.{cut, number_below}
 use Rattle.exif_assign.specs.declared.spelled.ValueError.{ValueError}
 use Rattle.exif_assign.specs.declared.spelled.ValueError.TheVariants.{NotOfItsType, OutOfRange, OutOfMemory}
 

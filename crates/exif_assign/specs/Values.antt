@@ -7,7 +7,7 @@ use Rattle.exif_text.specs.declared.field_type.FieldType.TheVariants as field_ty
 use Rattle.exif_types.specs.declared.tag.Tag.{Tag}
 use Rattle.exif_types.specs.declared.value.Value.{Value}
 use Rattle.exif_types.specs.declared.value.Value.TheVariants.{Byte, Ascii, Short, Long, Rational, SByte, Undefined, SShort, SLong, SRational}
-use Rattle.exif_clock.specs.Numbers.{cut, number_below}
+use Rattle.exif_datetime.specs.Numbers.{cut, number_below}
 use Rattle.exif_assign.specs.Rules.{form_of}
 use Rattle.exif_assign.specs.Texts.{Quotient, fraction, i16_in, i32_in, i8_in, items_in, rational_in, srational_in, u16_in, u32_in, u8_in}
 use Rattle.exif_assign.specs.declared.rules.Form.{Form}

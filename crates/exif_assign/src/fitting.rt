@@ -7,7 +7,7 @@ ghost use Rattle.std.specs.Option.{option_map};
 ghost use Rattle.exif_assign.specs.Fitting.{are_degrees, first_text, fits, flash_states, has_clock, is_below, is_clock, is_counted, is_date, is_day_text, is_degrees, is_digits, is_fraction, is_less, is_letter, is_listed, is_offset, is_unit, is_within, lists, number_of, states_day};
 
 use crate::rules::{Form, Listing};
-use exif_clock::{is_day, stated};
+use exif_datetime::{is_day, stated};
 use exif_text::Rational;
 use exif_text::date::read_date;
 use exif_text::offset::read_offset;

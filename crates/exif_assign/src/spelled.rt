@@ -5,7 +5,7 @@ ghost use Rattle.exif_assign.specs.declared.spelled.ValueError.TheVariants.{OutO
 ghost use Rattle.exif_assign.specs.Texts.{Spells, decimal_in, decimal_of, fraction_of, is_separator, items_behind, items_in, point_fraction, rational_in, signed_below, signed_fraction, small_fraction, srational_in, with_word};
 
 use exif_base::Items;
-use exif_clock::{cut, number_below};
+use exif_datetime::{cut, number_below};
 use exif_text::{Rational, SRational};
 use std::alloc::{AllocError, AllocFailed, Global};
 

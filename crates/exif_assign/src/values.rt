@@ -10,7 +10,7 @@ use crate::fitting::fits;
 use crate::rules::{Form, form_of};
 use crate::spelled::{ValueError, items_in, power_of_ten};
 use exif_base::Items;
-use exif_clock::{cut, number_below};
+use exif_datetime::{cut, number_below};
 use exif_text::{FieldType, Rational};
 use exif_types::{Tag, Value};
 use std::alloc::{AllocError, Global};

@@ -12,8 +12,8 @@ use Rattle.exif_change.specs.Refusals.{Why, editing, heif_fault, no_date, no_thu
 use Rattle.exif_change.specs.Refusals as why
 use Rattle.exif_change.specs.declared.refusal.Refusal.{Refusal}
 use Rattle.exif_change.specs.declared.refusal.Refusal.TheVariants as change
-use Rattle.exif_scrub_tiff.specs.declared.fault.Fault.{Fault}
-use Rattle.exif_scrub_tiff.specs.declared.fault.Fault.TheVariants as fault
+use Rattle.exif_scrub.specs.declared.tiff.fault.Fault.{Fault}
+use Rattle.exif_scrub.specs.declared.tiff.fault.Fault.TheVariants as fault
 use Rattle.exif_c.specs.declared.status.Status.{Status}
 use Rattle.exif_c.specs.declared.status.Status.TheVariants as status
 

@@ -8,7 +8,7 @@ ghost use Rattle.exif_c.specs.Statuses.{all, edit_status, error_status, named, n
 use crate::buffer::given;
 use exif::Error;
 use exif_change::Refusal;
-use exif_scrub_tiff::Fault;
+use exif_scrub::tiff::Fault;
 
 /// How a call ended.
 #[derive(Clone, Copy)]

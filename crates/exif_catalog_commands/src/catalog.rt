@@ -6,13 +6,12 @@ use exif_catalog::{
     is_below, row_values, text_of, update,
 };
 use exif_decisions::{self as decisions, Escaped, Outcome};
-use exif_files::Status;
 use exif_formats::{Picture, PictureFormat};
 use exif_json::mime_type;
 use exif_report::found_of;
 use exif_session::{
-    Cataloguing, FileStamp, Input, Next, Session, Stop, absolute_of, open, read, read_file,
-    stamp_of,
+    Cataloguing, FileStamp, Input, Next, Request, Session, Stop, absolute_of, open, read,
+    read_file, stamp_of,
 };
 use sha2::{Digest, Sha256};
 use std::alloc::{AllocError, Global};
@@ -35,7 +34,6 @@ struct Gathered<'s, 'r, 'a, 'd, 'c, W, E> {
     faults: usize,
     // what became of it, where there is one
     outcome: Option<Outcome>,
-    worst: Status,
     // the names that could not be followed
     failed: Vec<String>,
 }
@@ -44,7 +42,7 @@ impl<W: Sink, E: Sink> Gathered<'_, '_, '_, '_, '_, W, E> {
     // Counts the picture that was given last.
     fn end_picture(&mut self) {
         if let Some(outcome) = self.outcome {
-            self.worst = self.worst.or_worse(self.session.count(outcome));
+            self.session.count(outcome);
             let left = self.session.pending.len();
             self.session.console.step(left);
         }
@@ -54,7 +52,7 @@ impl<W: Sink, E: Sink> Gathered<'_, '_, '_, '_, '_, W, E> {
     // Reports a name that leads to no picture.
     fn refuse<T: std::fmt::Display>(&mut self, path: &str, cause: &T) -> Result<(), Stop> {
         let outcome = self.session.refuse(path, cause)?;
-        self.worst = self.worst.or_worse(self.session.count(outcome));
+        self.session.count(outcome);
         Ok(())
     }
 
@@ -254,12 +252,27 @@ fn update_rows<W: Sink, E: Sink>(
     update(rt, database, names.as_slice(), gathered)
 }
 
-/// Brings a catalogue up to date with the files that are named or found, and answers the worst
-/// status.
-pub fn update_catalog<W: Sink, E: Sink>(
+/// Brings a catalogue up to date with the files that are requested. Answers the status of the run,
+/// which follows from what was counted: 0, 3 where something was skipped, 1 where a file or the
+/// catalogue was refused.
+pub fn run_catalog<'r, W: Sink, E: Sink>(
+    rt: &'r HostRuntime,
+    request: &'r Request<'_>,
+    cataloguing: &Cataloguing<'_>,
+    shows_progress: bool,
+    out: &'r mut W,
+    err: &'r mut E,
+) -> Result<u8, Stop> {
+    let mut session = Session::begin(rt, request, shows_progress, out, err)?;
+    update_catalog(&mut session, cataloguing)?;
+    session.finish()
+}
+
+// Brings a catalogue up to date with the files that are named or found, and counts them.
+fn update_catalog<W: Sink, E: Sink>(
     session: &mut Session<'_, '_, W, E>,
     cataloguing: &Cataloguing<'_>,
-) -> Result<Status, Stop> {
+) -> Result<(), Stop> {
     let alloc = session.rt.alloc();
     let has_conditions = session.request.choice.is_any();
     let roots = roots_of(session.rt, session.request.paths.as_slice())?;
@@ -273,22 +286,18 @@ pub fn update_catalog<W: Sink, E: Sink>(
         stamp: FileStamp::UNKNOWN,
         faults: 0,
         outcome: None,
-        worst: Status::Success,
         failed: Vec::new(alloc),
     };
     let updated = update_rows(&mut gathered, roots.as_slice());
-    let Gathered { session, worst, .. } = gathered;
+    let Gathered { session, .. } = gathered;
     match updated {
         Ok(updated) => {
             report_moves(session, cataloguing.database, updated.moves.as_slice())?;
-            report_totals(session, cataloguing, updated.totals)?;
-            Ok(worst)
+            report_totals(session, cataloguing, updated.totals)
         }
         Err(RunError::Caller(stop)) => Err(stop),
         Err(RunError::Catalog(CatalogError::OutOfMemory)) => Err(Stop::OutOfMemory),
-        Err(RunError::Catalog(error)) => {
-            Ok(session.refuse(cataloguing.database, &error)?.status())
-        }
+        Err(RunError::Catalog(error)) => session.refuse_beside(cataloguing.database, &error),
     }
 }
 

@@ -6,6 +6,6 @@ mod catalog;
 mod page;
 mod query;
 
-pub use catalog::update_catalog;
+pub use catalog::run_catalog;
 pub use page::write_page;
 pub use query::answer_query;

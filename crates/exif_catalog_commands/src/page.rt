@@ -2,14 +2,13 @@
 
 use exif::{Error, Sink};
 use exif_catalog::{CatalogError, PictureRow, RunError, Visitor, visit};
-use exif_change::thumbnail;
-use exif_console::Console;
 use exif_files::{Status, folder_of};
 use exif_page::{
-    Exposure, Facts, Section, entry_html, entry_of, foot_html, head_html, link_to, section_of,
-    texts_of,
+    Exposure, Facts, Section, Thumbnail as Shown, end_html, entry_html, entry_of, foot_html,
+    head_html, link_to, section_of, texts_of, thumbnail_html,
 };
-use exif_session::{Paging, Stop, absolute_of, exif_of, out_of, write_out};
+use exif_session::{Console, Paging, Stop, absolute_of, out_of, thumbnail_of, write_out};
+use exif_thumbnails::{Coding, Thumbnail};
 use std::alloc::{AllocError, Global};
 
 // The page as far as it goes.
@@ -18,6 +17,8 @@ struct Page<'t, 'p, 'r, E> {
     rt: &'t HostRuntime,
     console: &'p mut Console<'r, E>,
     html: Vec<u8>,
+    // the data of the thumbnails so far, which are behind all entries
+    data: Vec<u8>,
     section: LastSection,
     // the folder of the page, which ends with a slash
     folder: String,
@@ -72,12 +73,9 @@ fn facts_of<'a>(picture: &'a PictureRow<'_>, link: &'a str) -> Facts<'a> {
 
 impl<E: Sink> Page<'_, '_, '_, E> {
     // The thumbnail in a file, if it has one. A file that can't be read is reported.
-    fn thumbnail_in(&mut self, path: &str) -> Result<Option<Vec<u8>>, AllocError> {
-        match exif_of(self.rt, path) {
-            Ok(exif) => match thumbnail(&exif) {
-                Some(jpeg) => Ok(Some(Vec::from_slice(self.rt.alloc(), jpeg)?)),
-                None => Ok(None),
-            },
+    fn thumbnail_in(&mut self, path: &str) -> Result<Option<Thumbnail>, AllocError> {
+        match thumbnail_of(self.rt, path) {
+            Ok(found) => Ok(found),
             Err(Error::NotFound(_)) => Ok(None),
             Err(Error::OutOfMemory) => Err(AllocError),
             Err(error) => {
@@ -89,26 +87,50 @@ impl<E: Sink> Page<'_, '_, '_, E> {
     }
 }
 
+// What a card says of a thumbnail that is an item of a HEIF file.
+fn item_line(coding: Coding) -> &'static str {
+    match coding {
+        Coding::Hevc => "Thumbnail not shown: HEVC",
+        Coding::Av1 => "Thumbnail not shown: AV1",
+        Coding::Jpeg => "Thumbnail not shown: a JPEG item",
+        Coding::Other => "Thumbnail not shown: not a JPEG",
+    }
+}
+
+// What a card has for a thumbnail.
+fn shown(found: &Option<Thumbnail>) -> Shown<'_> {
+    match found {
+        Some(Thumbnail::Jpeg(jpeg)) => Shown::Jpeg(jpeg.as_slice()),
+        Some(Thumbnail::TooLong) => Shown::Line("Thumbnail not shown: longer than 1 MiB"),
+        Some(Thumbnail::CutOff) => Shown::Line("Thumbnail not shown: cut off"),
+        Some(Thumbnail::Item(coding)) => Shown::Line(item_line(*coding)),
+        None => Shown::Line("No thumbnail"),
+    }
+}
+
 impl<E: Sink> Visitor for Page<'_, '_, '_, E> {
     type Error = AllocError;
 
     fn visit(&mut self, picture: &PictureRow<'_>) -> Result<(), AllocError> {
         let alloc = self.rt.alloc();
-        let jpeg = self.thumbnail_in(picture.path)?;
+        let found = self.thumbnail_in(picture.path)?;
         let link = link_to(alloc, self.folder.as_str(), picture.path)?;
         let facts = facts_of(picture, link.as_str());
         let texts = texts_of(alloc, &facts)?;
-        let entry = entry_of(&facts, &texts, jpeg.as_deref());
+        let thumbnail = shown(&found);
+        let entry = entry_of(&facts, &texts, thumbnail);
         let html = entry_html(alloc, self.section.section(), &entry)?;
         self.html.extend_from_slice(html.as_slice())?;
+        let data = thumbnail_html(alloc, thumbnail)?;
+        self.data.extend_from_slice(data.as_slice())?;
         self.section = LastSection::of(alloc, section_of(&entry))?;
         Ok(())
     }
 }
 
 /// Writes a page with the pictures of a catalogue to OUT, and answers the status: 0, 3 where a
-/// picture could not be read for its thumbnail, or 1 where there is no page. It takes the memory of
-/// the page.
+/// picture could not be read for its thumbnail, or 1 where there is no page. It takes twice the
+/// memory of the page.
 pub fn write_page<W: Sink, E: Sink>(
     rt: &HostRuntime,
     paging: &Paging<'_>,
@@ -163,6 +185,7 @@ fn page_of<E: Sink>(
         rt,
         console,
         html: head_html(rt.alloc(), "Pictures")?,
+        data: Vec::new(rt.alloc()),
         section: LastSection::Closed,
         folder: folder_in(rt, paging.to)?,
         worst: Status::Success,
@@ -174,11 +197,15 @@ fn page_of<E: Sink>(
     }
     let Page {
         mut html,
+        data,
         section,
         worst,
         ..
     } = page;
     let foot = foot_html(rt.alloc(), section.section())?;
     html.extend_from_slice(foot.as_slice())?;
+    html.extend_from_slice(data.as_slice())?;
+    let end = end_html(rt.alloc())?;
+    html.extend_from_slice(end.as_slice())?;
     Ok((html, worst))
 }

@@ -3,8 +3,7 @@
 use exif::Sink;
 use exif_base::send_all;
 use exif_catalog::{CatalogError, Lines, RunError, query};
-use exif_console::Console;
-use exif_session::Stop;
+use exif_session::{Console, Stop};
 use std::io;
 
 // Standard output.

@@ -31,8 +31,8 @@ use Rattle.exif_edit.specs.Promises.{ReadAs}
 use Rattle.exif_edit.specs.Removing.{without_named}
 use Rattle.exif_edit_files.specs.InFiles.{IsEditedIn, file_patches}
 use Rattle.exif_edit_files.proofs.FilesSound.{file_sound}
-use Rattle.exif_grow_fields.specs.Promises.{is_set, same_name, unset}
-use Rattle.exif_grow_fields.proofs.SetLists.{failing}
+use Rattle.exif_grow.specs.FieldPromises.{is_set, same_name, unset}
+use Rattle.exif_grow.proofs.SetLists.{failing}
 use Rattle.exif_change.specs.InPlace.{field_set, fit_by, fitting_set, needs_space, setting}
 use Rattle.exif_change.specs.Reading.{entry_limit}
 use Rattle.exif_change.specs.SetLaws.{GivesOthers, KeepsOthers}

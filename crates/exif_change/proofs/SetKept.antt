@@ -11,10 +11,10 @@ use Rattle.exif_segments.specs.declared.remove.Remove.TheVariants.{Exif}
 use Rattle.exif_edit_base.specs.Causes.{Cause}
 use Rattle.exif_edit_base.proofs.CauseSteps.{bound as edit_bound}
 use Rattle.exif_grow.specs.Growing.{grown}
-use Rattle.exif_grow_files.specs.Items.{item_grown, item_growth}
-use Rattle.exif_grow_files.proofs.ItemSound.{growth_sound}
-use Rattle.exif_grow_fields.specs.Promises.{AreSet}
-use Rattle.exif_grow_fields.specs.Fields.{fields_grown}
+use Rattle.exif_grow.specs.Items.{item_grown, item_growth}
+use Rattle.exif_grow.proofs.ItemSound.{growth_sound}
+use Rattle.exif_grow.specs.FieldPromises.{AreSet}
+use Rattle.exif_grow.specs.Fields.{fields_grown}
 use Rattle.exif_rewrite.specs.FileLaws.{AnswersPut, ComesOut, IsFound}
 use Rattle.exif_rewrite.specs.RewrittenFile.{at_once, file_rewriting, rewriting_as}
 use Rattle.exif_rewrite_jpeg.specs.JpegSteps.{strict_end, strictly}

@@ -14,10 +14,10 @@ use Rattle.exif_edit_base.proofs.CauseSteps.{bound as edit_bound, ok_same}
 use Rattle.exif_rewrite.specs.FileLaws.{IsFound}
 use Rattle.exif_segments.specs.declared.remove.Remove.{Remove}
 use Rattle.std.specs.Prelude.{Option}
-use Rattle.exif_grow_fields.specs.Promises.{is_set, same_name}
-use Rattle.exif_grow_fields.specs.Fields.{field_grown, fields_grown}
-use Rattle.exif_grow_fields.proofs.FieldSound.{are_set, was_set}
-use Rattle.exif_grow_fields.proofs.SetLists.{failing, without_failing}
+use Rattle.exif_grow.specs.FieldPromises.{is_set, same_name}
+use Rattle.exif_grow.specs.Fields.{field_grown, fields_grown}
+use Rattle.exif_grow.proofs.FieldSound.{are_set, was_set}
+use Rattle.exif_grow.proofs.SetLists.{failing, without_failing}
 use Rattle.exif_change.specs.Changed.{whole}
 use Rattle.exif_change.specs.Growing.{grown_file}
 use Rattle.exif_change.specs.InPlace.{field_set, fit_by, fitting_set, needs_space}

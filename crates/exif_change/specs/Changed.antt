@@ -3,7 +3,7 @@ use Rattle.std.specs.Prelude.{ℕ, List, [], map, Option, Some}
 use Rattle.std.specs.Option.{option_map}
 use Rattle.exif_types.specs.declared.tag.Tag.{Tag}
 use Rattle.exif_edit_base.specs.Causes.{Cause, cause_of}
-use Rattle.exif_clock.specs.declared.shift.Unmoved.{Unmoved}
+use Rattle.exif_datetime.specs.declared.shift.Unmoved.{Unmoved}
 use Rattle.exif_inventory.specs.declared.part.Part.{Part}
 use Rattle.exif_privacy.specs.declared.stays.Stays.{Stays}
 use Rattle.exif_change.specs.declared.changed.Changed.{Changed}

@@ -17,10 +17,10 @@ use Rattle.exif_inventory.specs.declared.part.Part.{Part}
 use Rattle.exif_privacy.specs.Erasing as privacy
 use Rattle.exif_privacy.specs.declared.stays.Stays.{Stays}
 use Rattle.exif_locations.specs.declared.unread.Unread.{Unread}
-use Rattle.exif_scrub_heif.specs.Scrubbing as heif
-use Rattle.exif_scrub_heif.specs.declared.fault.Fault as heif_faults
-use Rattle.exif_scrub_tiff.specs.Scrubbing as tiff
-use Rattle.exif_scrub_tiff.specs.declared.fault.Fault.{Fault}
+use Rattle.exif_scrub.specs.HeifScrubbing as heif
+use Rattle.exif_scrub.specs.declared.heif.fault.Fault as heif_faults
+use Rattle.exif_scrub.specs.TiffScrubbing as tiff
+use Rattle.exif_scrub.specs.declared.tiff.fault.Fault.{Fault}
 use Rattle.exif_change.specs.Changed.{Change, color_kept, stays, whole}
 use Rattle.exif_change.specs.Found.{with_found, with_parts}
 use Rattle.exif_change.specs.Reading.{Contents, entry_limit, file_contents}

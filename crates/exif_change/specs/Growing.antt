@@ -15,8 +15,8 @@ use Rattle.exif_layout.specs.Refused.{write_fault}
 use Rattle.exif_layout.specs.Rewriting.{pushed_all}
 use Rattle.exif_layout.specs.WriteFaults.{write_refusal}
 use Rattle.exif_layout.specs.declared.write_fault.WriteFault.{WriteFault}
-use Rattle.exif_grow_fields.specs.Fields.{fields_grown}
-use Rattle.exif_grow_files.specs.Items.{item_grown}
+use Rattle.exif_grow.specs.Fields.{fields_grown}
+use Rattle.exif_grow.specs.Items.{item_grown}
 use Rattle.exif_change.specs.Changed.{Change, whole}
 use Rattle.exif_change.specs.Refusals.{Why, as_edited, as_read, reading, second_exif, too_long, ◌>>=◌}
 use Rattle.exif_change.specs.Rewriting.{rewritten}

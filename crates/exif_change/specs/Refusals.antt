@@ -6,8 +6,8 @@ use Rattle.exif_types.specs.Refusals as types
 use Rattle.exif_types.specs.declared.tag.Tag.{Tag}
 use Rattle.exif_edit_base.specs.Causes.{Cause, cause_of}
 use Rattle.exif_edit_base.specs.declared.error.Error.TheVariants as edit
-use Rattle.exif_scrub_heif.specs.declared.fault.Fault as heif
-use Rattle.exif_scrub_tiff.specs.declared.fault.Fault.{Fault}
+use Rattle.exif_scrub.specs.declared.heif.fault.Fault as heif
+use Rattle.exif_scrub.specs.declared.tiff.fault.Fault.{Fault}
 use Rattle.exif_change.specs.declared.refusal.Refusal.{Refusal}
 use Rattle.exif_change.specs.declared.refusal.Refusal.TheVariants as refusal
 

@@ -6,7 +6,7 @@ use Rattle.exif_containers.specs.declared.container.Format.{Format}
 use Rattle.exif_containers.specs.declared.container.Format.TheVariants.{Tiff, Jpeg, Heif, WebP}
 use Rattle.exif_tiff.specs.Trace.{faults_of, fields_of, trace}
 use Rattle.exif_edit_base.specs.Rereading.{without_entry_offsets}
-use Rattle.exif_grow_fields.specs.Promises.{AreSet, unset}
+use Rattle.exif_grow.specs.FieldPromises.{AreSet, unset}
 
 -- an answer gives data in which these fields are set, and all else is as in the old data
 abbrev pub GivesSet : List Field → List ℕ → Result (List ℕ) Refusal → Type 0

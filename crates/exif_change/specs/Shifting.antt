@@ -6,9 +6,9 @@ use Rattle.exif_types.specs.declared.field.Field.{Field}
 use Rattle.exif_types.specs.declared.tag.Tag.{Tag}
 use Rattle.exif_types.specs.declared.value.Value.{Value}
 use Rattle.exif_edit_base.specs.Causes.{Cause}
-use Rattle.exif_clock.specs.Shift.{moved_value}
-use Rattle.exif_clock.specs.declared.shift.ClockShift.{ClockShift}
-use Rattle.exif_clock.specs.declared.shift.Unmoved.{Unmoved}
+use Rattle.exif_datetime.specs.Shift.{moved_value}
+use Rattle.exif_datetime.specs.declared.shift.ClockShift.{ClockShift}
+use Rattle.exif_datetime.specs.declared.shift.Unmoved.{Unmoved}
 use Rattle.exif_change.specs.Changed.{Change, Undone, unmoved, unset, whole}
 use Rattle.exif_change.specs.InPlace.{field_set}
 use Rattle.exif_change.specs.Reading.{file_contents}

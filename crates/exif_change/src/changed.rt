@@ -4,7 +4,7 @@ ghost use Rattle.std.specs.Prelude.{◌≡◌};
 ghost use Rattle.exif_change.specs.Changed.{change_of, whole};
 
 use exif::Tag;
-use exif_clock::Unmoved;
+use exif_datetime::Unmoved;
 use exif_inventory::Part;
 use exif_privacy::Stays;
 use std::alloc::Global;
@@ -52,6 +52,10 @@ pub enum Left {
 }
 
 impl fmt::Display for Left {
+    ghost use Rattle.exif_change.specs.Texts.{left_text};
+
+    ghost output = { left_text };
+
     fn fmt<W: fmt::Write>(&self, f: &mut fmt::Formatter<W>) -> fmt::Result {
         match self {
             Left::Date(tag, Unmoved::Blank) => write!(f, "{tag} is blank and was not moved"),

@@ -3,7 +3,7 @@
 ghost use Rattle.std.specs.Prelude.{◌≡◌, [], ◌∷◌, ◌++◌, map, IfOk, OnOk};
 ghost use Rattle.exif_change.specs.Changed.{change_of, undone_of, whole};
 ghost use Rattle.exif_change.specs.InPlace.{field_set};
-ghost use Rattle.exif_clock.specs.Shift.{moved_value};
+ghost use Rattle.exif_datetime.specs.Shift.{moved_value};
 ghost use Rattle.exif_change.specs.Refusals.{Answers};
 ghost use Rattle.exif_change.specs.Shifting.{date, date_moved, date_set, dates_moved, has_date, has_dates, shifted, tag_moved, tags_moved, tags_of};
 
@@ -11,7 +11,7 @@ use crate::changed::{Changed, Left};
 use crate::in_place::set_field;
 use crate::{Refusal, read};
 use exif::{Exif, Field, In, Tag, Value};
-use exif_clock::{ClockShift, moved_value};
+use exif_datetime::{ClockShift, moved_value};
 use std::alloc::{AllocError, Global};
 
 /// Which dates are moved.

@@ -15,8 +15,7 @@ use exif::experimental::Writer;
 use exif::{Counted, Error, Field, Tag};
 use exif_containers::container::Format;
 use exif_containers::exif_attr_of_stream;
-use exif_grow_fields::set_fields;
-use exif_grow_files::with_data;
+use exif_grow::{set_fields, with_data};
 use exif_rewrite::Remove;
 use std::alloc::Global;
 

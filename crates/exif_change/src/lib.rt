@@ -23,7 +23,7 @@ mod thumbnails;
 pub use changed::{Changed, Left};
 pub use dates::{Dates, shift};
 pub use exif_assign::Assignment;
-pub use exif_clock::{ClockShift, Unmoved};
+pub use exif_datetime::{ClockShift, Unmoved};
 pub use exif_privacy::Unread;
 pub use found::{belongs, with_found};
 pub use growing::new_data;

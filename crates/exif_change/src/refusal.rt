@@ -4,8 +4,8 @@ ghost use Rattle.std.specs.Prelude.{◌≡◌};
 ghost use Rattle.exif_change.specs.declared.refusal.Refusal.TheVariants.{Editing, OutOfMemory, Reading};
 
 use exif::Tag;
-use exif_scrub_heif::Fault as HeifFault;
-use exif_scrub_tiff::Fault;
+use exif_scrub::heif::Fault as HeifFault;
+use exif_scrub::tiff::Fault;
 use std::alloc::{AllocError, AllocFailed};
 use std::fmt;
 
@@ -73,6 +73,10 @@ impl From<exif_edit::Error> for Refusal {
 }
 
 impl fmt::Display for Refusal {
+    ghost use Rattle.exif_change.specs.Texts.{refusal_text};
+
+    ghost output = { refusal_text };
+
     fn fmt<W: fmt::Write>(&self, f: &mut fmt::Formatter<W>) -> fmt::Result {
         match self {
             Refusal::Reading(cause) => write!(f, "{cause}"),

@@ -5,8 +5,8 @@ ghost use Rattle.std.specs.Option.{option_map};
 ghost use Rattle.exif_types.specs.Refusals.{Gives};
 ghost use Rattle.exif_change.specs.Changed.{change_of, stays, undone_of};
 ghost use Rattle.exif_change.specs.Changes.{emptied, erased, gps_erased, heif_emptied, heif_left, if_parted, keeps_orientation, kept, orientation_in, scrubbed, scrubbed_as, scrubbed_with_color, tiff_emptied, unlocated, with_color, without_metadata};
-ghost use Rattle.exif_scrub_heif.specs.Scrubbing.{emptied as heif_file_emptied, settled};
-ghost use Rattle.exif_scrub_tiff.specs.Scrubbing.{scrubbed as tiff_scrubbed};
+ghost use Rattle.exif_scrub.specs.HeifScrubbing.{emptied as heif_file_emptied, settled};
+ghost use Rattle.exif_scrub.specs.TiffScrubbing.{scrubbed as tiff_scrubbed};
 ghost use Rattle.exif_privacy.specs.Erasing.{erased as privacy_erased};
 ghost use Rattle.exif_change.specs.Reading.{file_contents};
 ghost use Rattle.exif_change.specs.Refusals.{Answers};
@@ -35,9 +35,9 @@ pub enum Removed {
 }
 
 /// The file without its metadata. JPEG and WebP files are written again without them. In HEIF
-/// files they are overwritten where they are ([`exif_scrub_heif::empty`]), and the fields of the
+/// files they are overwritten where they are ([`exif_scrub::heif::empty`]), and the fields of the
 /// Exif data are erased: the picture's own rotation stays. Of TIFF files the directories of the
-/// pictures stay ([`exif_scrub_tiff::scrub`]). Where locations are erased, no byte moves. The
+/// pictures stay ([`exif_scrub::tiff::scrub`]). Where locations are erased, no byte moves. The
 /// answer has each part of the new file that is none of the picture's and may hold metadata, or a
 /// location ([`erase_locations`]). Of a JPEG stream that ends before its picture does what is there
 /// is kept. It takes the memory of the file and of the new one.
@@ -136,7 +136,7 @@ fn gps_erased(alloc: Global, mut file: Vec<u8>) -> Result<Vec<u8>, AllocError>
 fn heif_emptied(alloc: Global, mut file: Vec<u8>) -> Result<Changed, Refusal>
     ensures { Answers change_of result (heif_emptied (heif_file_emptied file.items)) }
 {
-    if exif_scrub_heif::empty(alloc, file.as_mut_slice())? {
+    if exif_scrub::heif::empty(alloc, file.as_mut_slice())? {
         return heif_left(alloc, erased(alloc, file, &Edit::EraseAll)?);
     }
     erased(alloc, file, &Edit::EraseAll)
@@ -147,7 +147,7 @@ fn heif_left(alloc: Global, changed: Changed) -> Result<Changed, Refusal>
     ensures { Answers change_of result
         (heif_left (change_of changed) (settled changed.file.items)) }
 {
-    match exif_scrub_heif::parts_left(alloc, changed.file.as_slice())? {
+    match exif_scrub::heif::parts_left(alloc, changed.file.as_slice())? {
         Ok(parts) => with_parts(alloc, changed, parts.as_slice()),
         Err(fault) => Err(Refusal::Heif(fault)),
     }
@@ -165,7 +165,7 @@ fn tiff_emptied(alloc: Global, file: &[u8], removed: Removed) -> Result<Changed,
     ensures { Answers change_of result
         (tiff_emptied (tiff_scrubbed (keeps_orientation removed) file.now)) }
 {
-    match exif_scrub_tiff::scrub(alloc, file, keeps_orientation(removed))? {
+    match exif_scrub::tiff::scrub(alloc, file, keeps_orientation(removed))? {
         Ok(new) => Ok(Changed::whole(alloc, new)),
         Err(fault) => Err(Refusal::Tiff(fault)),
     }

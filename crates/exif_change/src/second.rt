@@ -1,6 +1,6 @@
 //! Files with more than one block of Exif data.
 
-ghost use Rattle.std.specs.Prelude.{◌≡◌, true, false, length, is_some, IfOk, IfSome};
+ghost use Rattle.std.specs.Prelude.{◌≡◌, true, false, length, is_some, None, IfOk, IfSome, OnErr};
 ghost use Rattle.std.specs.List.{filter};
 ghost use Rattle.exif_types.specs.Refusals.{refusal_of};
 ghost use Rattle.exif_change.specs.Second.{found_behind, has_second, is_exif, second_in_jpeg, second_in_webp};
@@ -50,6 +50,7 @@ fn found_behind<R: Source>(alloc: Global, source: &mut R) -> Result<bool, AllocE
 fn not_found(error: Error) -> Result<bool, AllocError>
     ensures none { IfOk result (λ has. has ≡ false) }
     ensures refused { IfOk result (λ has. is_some (refusal_of error.entry) ≡ true) }
+    ensures interrupted { OnErr result (refusal_of error.entry ≡ None) }
 {
     match error {
         Error::OutOfMemory | Error::Io(_) | Error::PartialResult(_) => Err(AllocError),

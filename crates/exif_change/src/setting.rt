@@ -30,7 +30,7 @@ use std::alloc::{AllocError, Global};
 /// longer value.
 ///
 /// It takes the memory of the file, of the new one, and of what
-/// [`set_fields`](exif_grow_fields::set_fields) takes.
+/// [`set_fields`](exif_grow::set_fields) takes.
 pub fn set(alloc: Global, file: Vec<u8>, assignments: &[Assignment<'_>]) -> Result<Changed, Refusal>
     ensures { Answers change_of result (set_file assignments.now file.items) }
 {

@@ -24,10 +24,10 @@ use Rattle.exif_edit_base.proofs.FindSteps.{any_map, field_of}
 use Rattle.exif_edit_base.proofs.LocatedEntries.{last_said}
 use Rattle.exif_edit.proofs.SetFound.{from_behind, last_passing}
 use Rattle.exif_edit.proofs.Unshared.{located_in}
-use Rattle.exif_clock.specs.Shift.{moved_text, moved_value, with_date}
-use Rattle.exif_clock.specs.declared.shift.ClockShift.{ClockShift}
-use Rattle.exif_clock.specs.declared.shift.Unmoved.{Unmoved}
-use Rattle.exif_clock.specs.declared.shift.Unmoved.TheVariants.{Blank, Invalid}
+use Rattle.exif_datetime.specs.Shift.{moved_text, moved_value, with_date}
+use Rattle.exif_datetime.specs.declared.shift.ClockShift.{ClockShift}
+use Rattle.exif_datetime.specs.declared.shift.Unmoved.{Unmoved}
+use Rattle.exif_datetime.specs.declared.shift.Unmoved.TheVariants.{Blank, Invalid}
 use Rattle.exif_change_laws.proofs.MovedTexts.{was_moved}
 use Rattle.exif_change_laws.proofs.ValueItself.{Itself, itself}
 

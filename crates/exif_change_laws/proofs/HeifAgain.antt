@@ -32,11 +32,11 @@ use Rattle.exif_edit.proofs.ClearSound.{clear_sound, was_cleared}
 use Rattle.exif_edit_files.specs.InFiles.{edited_file, file_patches}
 use Rattle.exif_edit_files.proofs.EditsSound.{unlimited}
 use Rattle.exif_edit_files.proofs.FilesSound.{file_sound, was_placed}
-use Rattle.exif_scrub_heif.specs.Scrubbing as heif
-use Rattle.exif_scrub_heif.specs.declared.fault.Fault as heif_faults
-use Rattle.exif_scrub_heif.proofs.LayoutOrder.{heif_ordered}
-use Rattle.exif_scrub_heif.proofs.Stays.{emptied_long}
-use Rattle.exif_scrub_heif.proofs.Twice.{both_true, settled_bytes, settled_is}
+use Rattle.exif_scrub.specs.HeifScrubbing as heif
+use Rattle.exif_scrub.specs.declared.heif.fault.Fault as heif_faults
+use Rattle.exif_scrub.proofs.LayoutOrder.{heif_ordered}
+use Rattle.exif_scrub.proofs.Stays.{emptied_long}
+use Rattle.exif_scrub.proofs.HeifTwice.{both_true, settled_bytes, settled_is}
 use Rattle.exif_change.specs.Changed.{Change, still_there, whole}
 use Rattle.exif_change.specs.Changes.{heif_emptied, heif_left, if_edited}
 use Rattle.exif_change.specs.Reading.{entry_limit}

@@ -5,10 +5,10 @@ use Rattle.exif_containers.specs.declared.container.Format.TheVariants.{Heif}
 use Rattle.exif_edit.specs.declared.edits.Edit.TheVariants.{EraseAll}
 use Rattle.exif_inventory.specs.declared.part.Part.{Part}
 use Rattle.exif_inventory_heif.specs.Inventories.{heif_inventory, is_heif, layout_of}
-use Rattle.exif_scrub_heif.specs.Promises.{AllKnown, IsKnown}
-use Rattle.exif_scrub_heif.specs.Scrubbing as heif
-use Rattle.exif_scrub_heif.specs.declared.fault.Fault as heif_faults
-use Rattle.exif_scrub_heif.proofs.Left.{settled_known}
+use Rattle.exif_scrub.specs.HeifPromises.{AllKnown, IsKnown}
+use Rattle.exif_scrub.specs.HeifScrubbing as heif
+use Rattle.exif_scrub.specs.declared.heif.fault.Fault as heif_faults
+use Rattle.exif_scrub.proofs.Left.{settled_known}
 use Rattle.exif_change.specs.Changed.{Change, Undone, still_there}
 use Rattle.exif_change.specs.Changes.{erased, heif_emptied, heif_left, scrubbed_as}
 use Rattle.exif_change.specs.Refusals.{Why, heif_fault, ◌>>=◌}

@@ -46,3 +46,16 @@ mod ShownTags
 mod ShownValues
 mod TiffSettled
 mod ValueItself
+mod ApartCounts
+mod ApartEntries
+mod ApartFields
+mod ApartLocated
+mod ApartOffsets
+mod RemovedBytes
+mod RemovedDirectories
+mod RemovedLists
+mod RemovedTexts
+mod RemovedUnshared
+mod RemovedVisits
+mod ShrunkNodes
+mod ShrunkValues

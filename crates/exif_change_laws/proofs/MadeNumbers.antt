@@ -8,7 +8,7 @@ use Rattle.std.proofs.lemmas.List.Elements.{All-nil, All-cons, All-push}
 use Rattle.std.proofs.Math.Nat.{div-le_self, mod-lt, pow-le-pow_right}
 use Rattle.exif_text.specs.declared.rational.Rational.{Rational as Fraction}
 use Rattle.exif_text.specs.declared.rational.SRational.{SRational as SignedFraction}
-use Rattle.exif_clock.specs.Numbers.{cut, digits_below, next_below, number_below}
+use Rattle.exif_datetime.specs.Numbers.{cut, digits_below, next_below, number_below}
 use Rattle.exif_assign.specs.Texts.{Quotient, decimal_in, decimal_of, fraction, fraction_of, is_separator, items_behind, items_in, not_empty, point_fraction, rational_in, signed_below, signed_fraction, small_fraction, srational_in, u32_in, with_word}
 use Rattle.exif_assign.specs.Values.{decimal_degrees, degrees_in, parts_of}
 

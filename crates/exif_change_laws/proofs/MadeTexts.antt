@@ -14,9 +14,9 @@ use Rattle.exif_text.specs.declared.date_fault.DateFault.TheVariants.{BlankDate,
 use Rattle.exif_types.specs.Sound.{HasPlainTexts}
 use Rattle.exif_types.specs.declared.value.Value.{Value}
 use Rattle.exif_types.specs.declared.value.Value.TheVariants.{Ascii}
-use Rattle.exif_clock.specs.Calendar.{is_day}
-use Rattle.exif_clock.specs.Shift.{on_calendar, stated, unmoved_by}
-use Rattle.exif_clock.specs.declared.shift.Unmoved.{Unmoved}
+use Rattle.exif_datetime.specs.Calendar.{is_day}
+use Rattle.exif_datetime.specs.Shift.{on_calendar, stated, unmoved_by}
+use Rattle.exif_datetime.specs.declared.shift.Unmoved.{Unmoved}
 use Rattle.exif_assign.specs.Fitting.{is_date, is_day_text, states_day}
 use Rattle.exif_assign.specs.Values.{date_in, day_in, has_day_separators, has_separators, text_in}
 

@@ -6,9 +6,9 @@ use Rattle.exif_types.specs.Lookup.{last_named}
 use Rattle.exif_types.specs.declared.field.Field.{Field}
 use Rattle.exif_types.specs.declared.tag.Tag.{Tag}
 use Rattle.exif_types.specs.declared.value.Value.{Value}
-use Rattle.exif_clock.specs.Shift.{moved_value, opposite}
-use Rattle.exif_clock.specs.declared.shift.ClockShift.{ClockShift}
-use Rattle.exif_clock.specs.declared.shift.Unmoved.{Unmoved}
+use Rattle.exif_datetime.specs.Shift.{moved_value, opposite}
+use Rattle.exif_datetime.specs.declared.shift.ClockShift.{ClockShift}
+use Rattle.exif_datetime.specs.declared.shift.Unmoved.{Unmoved}
 use Rattle.exif_edit_base.specs.Finding.{replaced, with_value}
 use Rattle.exif_change.specs.Setting.{primary}
 use Rattle.exif_change_laws.proofs.SetFields.{AreApart, last_kept, last_same, last_value, replaced_turned, twice_replaced}

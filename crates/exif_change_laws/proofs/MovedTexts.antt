@@ -14,11 +14,11 @@ use Rattle.exif_text.specs.declared.date_fault.DateFault.{DateFault}
 use Rattle.exif_text.specs.declared.date_fault.DateFault.TheVariants.{BlankDate, DateTooShort, InvalidDateDelimiter, NotANumber}
 use Rattle.exif_types.specs.declared.value.Value.{Value}
 use Rattle.exif_types.specs.declared.value.Value.TheVariants.{Byte, Ascii, Short, Long, Rational, SByte, Undefined, SShort, SLong, SRational, Float, Double, Unknown}
-use Rattle.exif_clock.specs.Calendar.{date_at, date_in, days_in_month, days_in_year, is_day, is_leap, is_time, moment_at, month_at, month_from, seconds_of, time_at, year_at, year_from}
-use Rattle.exif_clock.specs.Shift.{digit, moment_text, moved, moved_seconds, moved_text, moved_texts, moved_value, on_calendar, opposite, stated, text_or, unmoved_by, with_date}
-use Rattle.exif_clock.specs.declared.shift.ClockShift.{ClockShift}
-use Rattle.exif_clock.specs.declared.shift.Unmoved.{Unmoved}
-use Rattle.exif_clock.specs.declared.shift.Unmoved.TheVariants.{Blank, Invalid, OutOfRange}
+use Rattle.exif_datetime.specs.Calendar.{date_at, date_in, days_in_month, days_in_year, is_day, is_leap, is_time, moment_at, month_at, month_from, seconds_of, time_at, year_at, year_from}
+use Rattle.exif_datetime.specs.Shift.{digit, moment_text, moved, moved_seconds, moved_text, moved_texts, moved_value, on_calendar, opposite, stated, text_or, unmoved_by, with_date}
+use Rattle.exif_datetime.specs.declared.shift.ClockShift.{ClockShift}
+use Rattle.exif_datetime.specs.declared.shift.Unmoved.{Unmoved}
+use Rattle.exif_datetime.specs.declared.shift.Unmoved.TheVariants.{Blank, Invalid, OutOfRange}
 
 -- ---- the bytes of a text that states a date
 

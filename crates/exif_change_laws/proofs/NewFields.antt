@@ -13,7 +13,7 @@ use Rattle.exif_layout.specs.Encoding.{moved_to}
 use Rattle.exif_layout.specs.Groups.{entry_of, is_ignored}
 use Rattle.exif_layout.specs.Pushing.{HoldsInTagOrder, IsMoved, slots_into}
 use Rattle.exif_layout.specs.Slots.{Slot, in_tag_order, inserted, known}
-use Rattle.exif_grow_fields.specs.Promises.{IsThere, bare, is_set, same_name}
+use Rattle.exif_grow.specs.FieldPromises.{IsThere, bare, is_set, same_name}
 use Rattle.exif_change_laws.specs.Assigned.{HasValueOf, written}
 use Rattle.exif_change_laws.proofs.SetNames.{AreDistinct, name_turned}
 

@@ -16,7 +16,7 @@ use Rattle.exif_layout.specs.Ranged.{AreReadable}
 use Rattle.exif_layout.specs.ReadBack.{ReadsBack}
 use Rattle.exif_layout.specs.Rewriting.{pushed_all}
 use Rattle.exif_rewrite.specs.FileLaws.{IsFound}
-use Rattle.exif_grow_fields.specs.Promises.{is_set}
+use Rattle.exif_grow.specs.FieldPromises.{is_set}
 use Rattle.exif_change_laws.specs.Assigned.{HasValueOf, IsReadAs, SetAnew, all_new, data_of_new, written}
 use Rattle.exif_change_laws.specs.Shifted.{all_read}
 use Rattle.exif_change_laws.proofs.NewFields.{among, moved_named, moved_value, pushed_there}

@@ -34,9 +34,9 @@ use Rattle.exif_rewrite.proofs.FileHeads.{jpeg_head, webp_head}
 use Rattle.exif_rewrite_jpeg.specs.Rewriting.{Rewriting, finished}
 use Rattle.exif_rewrite_webp.specs.RewrittenWebp.{webp_rewriting}
 use Rattle.exif_inventory.specs.declared.part.Part.{Part}
-use Rattle.exif_scrub_heif.specs.Scrubbing as heif
-use Rattle.exif_scrub_heif.specs.declared.fault.Fault as heif_faults
-use Rattle.exif_scrub_heif.proofs.Stays.{emptied_long}
+use Rattle.exif_scrub.specs.HeifScrubbing as heif
+use Rattle.exif_scrub.specs.declared.heif.fault.Fault as heif_faults
+use Rattle.exif_scrub.proofs.Stays.{emptied_long}
 use Rattle.exif_change.specs.Changed.{Change, whole}
 use Rattle.exif_change.specs.Changes.{erased, heif_emptied, heif_left, if_edited, scrubbed, scrubbed_as}
 use Rattle.exif_change.specs.Reading.{Contents, data_contents, entry_limit, file_contents}

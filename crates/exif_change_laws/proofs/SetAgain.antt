@@ -23,8 +23,8 @@ use Rattle.exif_containers.specs.declared.container.Format.{Format}
 use Rattle.exif_edit.proofs.SetFound.{from_behind, last_passing}
 use Rattle.exif_edit_base.specs.Rereading.{without_entry_offsets}
 use Rattle.exif_rewrite.specs.FileLaws.{IsFound}
-use Rattle.exif_grow_fields.specs.Promises.{bare, is_set, same_name}
-use Rattle.exif_grow_fields.proofs.SetLists.{failing, without_failing}
+use Rattle.exif_grow.specs.FieldPromises.{bare, is_set, same_name}
+use Rattle.exif_grow.proofs.SetLists.{failing, without_failing}
 use Rattle.exif_assign.specs.Assigning.{or_else}
 use Rattle.exif_assign.specs.Rules.{type_of_new}
 use Rattle.exif_assign.specs.Values.{value_in}

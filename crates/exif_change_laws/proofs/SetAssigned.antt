@@ -25,7 +25,7 @@ use Rattle.exif_containers.specs.Container.{container_answer, format_in}
 use Rattle.exif_containers.specs.declared.container.Format.{Format}
 use Rattle.exif_containers.specs.declared.container.Format.TheVariants.{Tiff, Jpeg, Heif, WebP}
 use Rattle.exif_rewrite.specs.FileLaws.{IsFound}
-use Rattle.exif_grow_fields.specs.Promises.{is_set, same_name}
+use Rattle.exif_grow.specs.FieldPromises.{is_set, same_name}
 use Rattle.exif_assign.specs.Assigning.{parts_of}
 use Rattle.exif_assign.specs.Values.{value_in}
 use Rattle.exif_assign.specs.declared.assignment.Assignment.{Assignment}

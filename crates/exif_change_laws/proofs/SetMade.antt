@@ -7,7 +7,7 @@ use Rattle.exif_types.specs.FieldEq.{tag_Decides}
 use Rattle.exif_types.specs.Lookup.{tag_eq}
 use Rattle.exif_types.specs.declared.field.Field.{Field}
 use Rattle.exif_types.specs.declared.tag.Tag.{Tag}
-use Rattle.exif_grow_fields.specs.Promises.{is_set, same_name}
+use Rattle.exif_grow.specs.FieldPromises.{is_set, same_name}
 use Rattle.exif_assign.specs.Assigning.{parts_of}
 use Rattle.exif_assign.specs.declared.assignment.Assignment.{Assignment}
 use Rattle.exif_change.specs.Refusals.{Why, ◌>>=◌}

@@ -28,9 +28,9 @@ use Rattle.exif_edit.proofs.HeaderMarks.{IsMarked, header_marked}
 use Rattle.exif_edit_files.specs.InFiles.{file_patches}
 use Rattle.exif_edit_files.proofs.FilesSound.{file_sound}
 use Rattle.exif_rewrite.specs.FileLaws.{IsFound}
-use Rattle.exif_grow_fields.specs.Promises.{bare}
-use Rattle.exif_grow_fields.specs.Fields.{field_grown, fields_grown}
-use Rattle.exif_grow_fields.proofs.FieldSound.{are_set, was_set}
+use Rattle.exif_grow.specs.FieldPromises.{bare}
+use Rattle.exif_grow.specs.Fields.{field_grown, fields_grown}
+use Rattle.exif_grow.proofs.FieldSound.{are_set, was_set}
 use Rattle.exif_change.specs.Changed.{whole}
 use Rattle.exif_change.specs.InPlace.{field_set, fitting_set, setting}
 use Rattle.exif_change.specs.Reading.{entry_limit}

@@ -32,10 +32,10 @@ use Rattle.exif_edit.proofs.ReadSound.{reads_are}
 use Rattle.exif_edit.proofs.SetSound.{was_set}
 use Rattle.exif_edit_files.specs.InFiles.{file_patches}
 use Rattle.exif_edit_files.proofs.FilesSound.{file_sound}
-use Rattle.exif_clock.specs.Shift.{moved_text, moved_value, opposite, with_date}
-use Rattle.exif_clock.specs.declared.shift.ClockShift.{ClockShift}
-use Rattle.exif_clock.specs.declared.shift.Unmoved.{Unmoved}
-use Rattle.exif_clock.specs.declared.shift.Unmoved.TheVariants.{Blank, Invalid}
+use Rattle.exif_datetime.specs.Shift.{moved_text, moved_value, opposite, with_date}
+use Rattle.exif_datetime.specs.declared.shift.ClockShift.{ClockShift}
+use Rattle.exif_datetime.specs.declared.shift.Unmoved.{Unmoved}
+use Rattle.exif_datetime.specs.declared.shift.Unmoved.TheVariants.{Blank, Invalid}
 use Rattle.exif_change.specs.Changed.{Change, Undone, unmoved, unset, whole}
 use Rattle.exif_change.specs.InPlace.{field_set}
 use Rattle.exif_change.specs.Reading.{Contents, data_contents, entry_limit, fields_in, without_fault}

@@ -5,7 +5,7 @@ use Rattle.std.proofs.lemmas.Bool.Decides.{nat_tests}
 use Rattle.std.proofs.Math.Nat.{add-mul, add_assoc, div-add-mod', div-div-eq-div-mul, div-lt_iff_lt-mul, div-one, div-le_self, dvd-mul_left, mod-eq_of_lt, mod-lt, mod-mod_of_dvd, mod-one, mul-add-div_right, mul-add-mod_self_right, mul_comm, mul_assoc, one-le-pow, pow-suc}
 use Rattle.exif_text.specs.Decimal.{in_digits, push_unless_last_zero, without_last_zeros}
 use Rattle.exif_text.specs.declared.rational.Rational.{Rational}
-use Rattle.exif_clock.specs.Numbers.{cut}
+use Rattle.exif_datetime.specs.Numbers.{cut}
 use Rattle.exif_change_laws.specs.Shown.{shortened}
 use Rattle.exif_assign.specs.Texts.{decimal_in, decimal_of, fraction, point_fraction, small_fraction, u32_in}
 use Rattle.exif_change_laws.proofs.ShownDigits.{AreDigits, IsNotEmpty, cut_nowhere, cut_there, decimal_of_number, decimal_read, digits_lack, number_read, value_behind}

@@ -4,7 +4,7 @@ use Rattle.std.specs.Prelude.{nat_lt}
 use Rattle.std.specs.Char.{is_ascii_digit}
 use Rattle.std.proofs.lemmas.Bool.Decides.{nat_tests}
 use Rattle.std.proofs.lemmas.Fmt.{decimal_by_steps}
-use Rattle.exif_clock.specs.Numbers.{cut_behind, digits_below, next_below, number_below}
+use Rattle.exif_datetime.specs.Numbers.{cut_behind, digits_below, next_below, number_below}
 
 -- ---- digits
 

@@ -7,7 +7,7 @@ use Rattle.std.proofs.Math.Nat.{div-le_of_le-mul, le-mul_of_pos_right, mod-lt, m
 use Rattle.exif_text.specs.Decimal.{decimal_text, fraction_text, in_digits, without_last_zeros}
 use Rattle.exif_text.specs.declared.rational.Rational.{Rational}
 use Rattle.exif_text.specs.declared.rational.SRational.{SRational}
-use Rattle.exif_clock.specs.Numbers.{cut}
+use Rattle.exif_datetime.specs.Numbers.{cut}
 use Rattle.exif_change_laws.specs.Shown.{shortened, shown_fraction}
 use Rattle.exif_assign.specs.Texts.{decimal_in, fraction, fraction_of, rational_in, signed_fraction, srational_in, u32_in}
 use Rattle.exif_change_laws.proofs.ShownDecimals.{digits_in, digits_without, parts_read, parts_text, tail_of, ten_pos}

@@ -1,6 +1,6 @@
 -- Numbers that are read of their texts.
 use Rattle.std.proofs.Common.{◌≡◌, ◌<◌, ◌+◌, ◌^◌, ℕ, suc, pos, negsuc, neg_ℤ, List, [], ◌∷◌, ◌++◌, Some, decimal, option_map, refl, ap, arith}
-use Rattle.exif_clock.specs.Numbers.{number_below}
+use Rattle.exif_datetime.specs.Numbers.{number_below}
 use Rattle.exif_assign.specs.Texts.{fraction, signed_below, srational_in}
 use Rattle.exif_change_laws.proofs.ShownDigits.{decimal_of_number, decimal_read, digits_lack}
 use Rattle.exif_change_laws.proofs.ShownFractions.{BeginsOther, begins_append, begins_lacking, minus_signed, plainly_signed, quotient_spelled}

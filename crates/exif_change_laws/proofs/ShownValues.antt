@@ -16,7 +16,7 @@ use Rattle.exif_types.specs.ValueTypes.{field_type_of}
 use Rattle.exif_types.specs.declared.tag.Tag.{Tag}
 use Rattle.exif_types.specs.declared.value.Value.{Value}
 use Rattle.exif_types.specs.declared.value.Value.TheVariants.{Byte, Ascii, Short, Long, Rational, SByte, Undefined, SShort, SLong, SRational, Float, Double, Unknown}
-use Rattle.exif_clock.specs.Numbers.{cut, digits_below, next_below, number_below}
+use Rattle.exif_datetime.specs.Numbers.{cut, digits_below, next_below, number_below}
 use Rattle.exif_assign.specs.Rules.{form_of}
 use Rattle.exif_assign.specs.Texts.{Quotient, fraction, i16_in, i32_in, i8_in, items_in, rational_in, signed_below, srational_in, u16_in, u32_in, u8_in}
 use Rattle.exif_assign.specs.Values.{decimal_degrees, degrees_in, fitting, spelled_value, value_in}

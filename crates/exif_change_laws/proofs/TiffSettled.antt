@@ -7,12 +7,12 @@ use Rattle.exif_base.specs.declared.endian.Order.TheVariants.{Big, Little}
 use Rattle.exif_containers.specs.Container.{begins_tiff, format_in}
 use Rattle.exif_containers.specs.declared.container.Format.{Format}
 use Rattle.exif_containers.specs.declared.container.Format.TheVariants.{Tiff}
-use Rattle.exif_scrub_tiff.specs.Keeping.{◌>>=◌, kept_bytes}
-use Rattle.exif_scrub_tiff.specs.Scrubbing as tiff
-use Rattle.exif_scrub_tiff.specs.declared.fault.Fault.{Fault}
-use Rattle.exif_scrub_tiff.specs.declared.fault.Fault.TheVariants.{NoHeader, Raw}
-use Rattle.exif_scrub_tiff.specs.declared.pass.Pass.TheVariants.{Keep}
-use Rattle.exif_scrub_tiff.proofs.Twice.{described_alone, stays_alone, twice}
+use Rattle.exif_scrub.specs.Keeping.{◌>>=◌, kept_bytes}
+use Rattle.exif_scrub.specs.TiffScrubbing as tiff
+use Rattle.exif_scrub.specs.declared.tiff.fault.Fault.{Fault}
+use Rattle.exif_scrub.specs.declared.tiff.fault.Fault.TheVariants.{NoHeader, Raw}
+use Rattle.exif_scrub.specs.declared.tiff.pass.Pass.TheVariants.{Keep}
+use Rattle.exif_scrub.proofs.TiffTwice.{described_alone, stays_alone, twice}
 use Rattle.exif_change.specs.Changed.{Change, whole}
 use Rattle.exif_change.specs.Changes.{keeps_orientation, scrubbed, scrubbed_as, tiff_emptied}
 use Rattle.exif_change.specs.declared.scrubbing.Removed.{Removed}

@@ -14,7 +14,7 @@ use Rattle.exif_layout.specs.Rewriting.{pushed_all}
 use Rattle.exif_edit_base.specs.Finding.{last_located}
 use Rattle.exif_edit_base.specs.Locations.{Located, located}
 use Rattle.exif_edit.specs.Setting.{set_answer}
-use Rattle.exif_grow_fields.specs.Promises.{IsThere, bare, same_name}
+use Rattle.exif_grow.specs.FieldPromises.{IsThere, bare, same_name}
 use Rattle.exif_assign.specs.declared.assignment.Assignment.{Assignment}
 use Rattle.exif_change.specs.Changed.{whole}
 use Rattle.exif_change.specs.InPlace.{field_set}

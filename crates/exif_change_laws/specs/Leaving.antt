@@ -5,7 +5,7 @@ use Rattle.exif_containers.specs.declared.container.Format.{Format}
 use Rattle.exif_containers.specs.declared.container.Format.TheVariants.{Heif}
 use Rattle.exif_inventory.specs.declared.part.Part.{Part}
 use Rattle.exif_inventory_heif.specs.Inventories.{heif_inventory, is_heif}
-use Rattle.exif_scrub_heif.specs.Promises.{AllKnown}
+use Rattle.exif_scrub.specs.HeifPromises.{AllKnown}
 use Rattle.exif_change.specs.Changed.{Change, Undone, still_there}
 use Rattle.exif_change.specs.Changes.{scrubbed}
 use Rattle.exif_change.specs.declared.scrubbing.Removed.{Removed}

@@ -9,3 +9,6 @@ pub mod SetExamples
 pub mod Shifted
 pub mod Shown
 pub mod ShownExamples
+pub mod Apart
+pub mod FieldsApart
+pub mod FieldsApartExamples

@@ -13,8 +13,8 @@ use Rattle.exif_edit_base.specs.Finding.{last_located}
 use Rattle.exif_edit_base.specs.Locations.{located}
 use Rattle.exif_edit_base.specs.Spans.{value_space}
 use Rattle.exif_edit_base.specs.declared.patch.Span.{Span}
-use Rattle.exif_clock.specs.Shift.{opposite}
-use Rattle.exif_clock.specs.declared.shift.ClockShift.{ClockShift}
+use Rattle.exif_datetime.specs.Shift.{opposite}
+use Rattle.exif_datetime.specs.declared.shift.ClockShift.{ClockShift}
 use Rattle.exif_change.specs.Changed.{Change, whole}
 use Rattle.exif_change.specs.Reading.{file_contents}
 use Rattle.exif_change.specs.Setting.{primary}

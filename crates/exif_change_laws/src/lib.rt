@@ -1,6 +1,7 @@
 //! Laws of changed files: what is read of a file without its metadata, of one that got those of
-//! another picture, and of one whose dates were moved and moved back. They hold for all files, and
-//! speak of the definitions alone. A shift that is given as text has fewer than 2^42 seconds.
+//! another picture, and of one whose dates were moved and moved back; and of edits in place, which
+//! ordinary data never refuse. They hold for all files, and speak of the definitions alone. A shift
+//! that is given as text has fewer than 2^42 seconds.
 #![tactic(auto)]
 
 ghost use Rattle.std.specs.Prelude.{ℕ, Bool, true, ◌≡◌, ◌<◌, ◌^◌, List, [], ◌∷◌, length, Option, None, Some, Ok};
@@ -11,8 +12,8 @@ ghost use Rattle.exif_containers.specs.declared.container.Format.{Format};
 ghost use Rattle.exif_containers.specs.declared.container.Format.TheVariants.{Heif, Tiff, WebP};
 ghost use Rattle.exif_rewrite.specs.FileLaws.{AnswersPut};
 ghost use Rattle.exif_rewrite.specs.ScrubbedExif.{wanted};
-ghost use Rattle.exif_clock.specs.Shift.{moved_value, opposite};
-ghost use Rattle.exif_clock.specs.declared.shift.ClockShift.{ClockShift};
+ghost use Rattle.exif_datetime.specs.Shift.{moved_value, opposite};
+ghost use Rattle.exif_datetime.specs.declared.shift.ClockShift.{ClockShift};
 ghost use Rattle.exif_change.specs.Changed.{whole};
 ghost use Rattle.exif_change.specs.Changes.{kept, scrubbed, upright};
 ghost use Rattle.exif_change.specs.Reading.{Contents, file_contents};
@@ -24,12 +25,13 @@ ghost use Rattle.exif_change_laws.specs.Scrubbed.{HasNoField, is_rewritten, orie
 ghost use Rattle.exif_change_laws.specs.Shifted.{all_read};
 
 pub mod copied;
+pub mod edits;
 pub mod found;
 pub mod scrubs;
 pub mod sets;
 pub mod shown;
 
-use exif_clock::laws::a_moved_date_is_moved_back;
+use exif_datetime::laws::a_moved_date_is_moved_back;
 use exif_rewrite::laws::file_answers_what_was_put;
 use exif_tiff::laws::limits_cut_readings;
 

@@ -3,7 +3,7 @@
 ghost use Rattle.std.specs.Prelude.{◌≡◌, true, Ok};
 ghost use Rattle.exif_containers.specs.declared.container.Format.TheVariants.{Heif, Tiff};
 ghost use Rattle.exif_inventory_heif.specs.Inventories.{is_heif};
-ghost use Rattle.exif_scrub_tiff.specs.Scrubbing.{only_described};
+ghost use Rattle.exif_scrub.specs.TiffScrubbing.{only_described};
 ghost use Rattle.exif_change.specs.Changes.{keeps_orientation, scrubbed};
 ghost use Rattle.exif_change_laws.specs.Leaving.{Emptied, EmptiedTwice, IsAllKnown};
 

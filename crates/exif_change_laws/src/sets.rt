@@ -4,7 +4,7 @@ ghost use Rattle.std.specs.Prelude.{◌≡◌, Bool, All, Ok, true};
 ghost use Rattle.exif_tiff.specs.Answers.{Whole};
 ghost use Rattle.exif_containers.specs.Container.{container_answer};
 ghost use Rattle.exif_layout.specs.Pushing.{HoldsInTagOrder};
-ghost use Rattle.exif_grow_fields.specs.Promises.{is_set};
+ghost use Rattle.exif_grow.specs.FieldPromises.{is_set};
 ghost use Rattle.exif_change_laws.specs.Assigned.{FieldSetTwice, GivesAssigned, GivesAssignedAgain, IsReadAs, SetAnew, SetOnce, SetTwice, ValueSetTwice, all_new, all_set, both_set, data_of_new, now_read};
 ghost use Rattle.exif_change_laws.specs.Shifted.{all_read};
 

@@ -2,12 +2,14 @@
 
 use exif::{Error, Exif, Sink, Tag};
 use exif_change::{Assignment, Refusal};
-use exif_decisions::{Escaped, Outcome};
-use exif_files::{Failure, HostFiles, Status, WriteError, change};
-use exif_geotag::{Relocation, TimeStamp, fix_of_picture, stale_tags, time_of_picture};
-use exif_session::{Geotagging, Plan, Session, Stop, exif_of, read_file};
+use exif_decisions::Outcome;
+use exif_files::{Failure, HostFiles, Status, change};
+use exif_geotag::{
+    Fix, Moment, Relocation, TimeStamp, Track, fix_of_picture, moment_at, stale_tags,
+    time_of_picture,
+};
+use exif_session::{Geotagging, NotChanged, Plan, Session, Stop, exif_of, outcome_of, read_file};
 use exif_summary::{LATITUDE, LONGITUDE, find_degrees};
-use exif_track::{Fix, Moment, Track, moment_at};
 use std::alloc::AllocError;
 
 // The location of a picture and its time, and which of its fields are of an old one.
@@ -25,54 +27,57 @@ enum Located {
     Unknown(&'static str),
 }
 
-/// Sets the location of each file that is named or found, in place, by a track, and answers the
-/// worst status. A file without a date, or of a time at which the track was nowhere, is left and
+/// Sets the location of each file that is named or found, in place, by a track, and counts it. A file without a date, or of a time at which the track was nowhere, is left and
 /// reported, and one that has a location unless that is to be replaced; so are points of the track
 /// without a time or a location, and that it is cut off.
 pub fn geotag_files<W: Sink, E: Sink>(
     session: &mut Session<'_, '_, W, E>,
     geotagging: &Geotagging<'_>,
-) -> Result<Status, Stop> {
-    let (track, status) = match track_of(session, geotagging.track)? {
-        Ok(found) => found,
-        Err(refused) => return Ok(refused),
+) -> Result<(), Stop> {
+    let Some(track) = track_of(session, geotagging.track)? else {
+        return Ok(());
     };
-    let (plan, gathered) = Plan::gather(session)?;
-    let mut worst = status.or_worse(gathered);
+    let plan = Plan::gather(session)?;
     for (path, key) in plan.paths.iter().zip(plan.keys.iter()) {
-        let status = geotag_file(session, geotagging, &track, path.as_str(), key.as_str())?;
-        worst = worst.or_worse(status);
+        let outcome = geotag_file(session, geotagging, &track, path.as_str(), key.as_str())?;
+        session.count(outcome);
     }
-    Ok(worst)
+    Ok(())
 }
 
-// The track in a file and the file's status, or the status where there is none, which is reported.
+// The track in a file, if it has one. What is wrong with it is reported and counted.
 fn track_of<W: Sink, E: Sink>(
     session: &mut Session<'_, '_, W, E>,
     path: &str,
-) -> Result<Result<(Track, Status), Status>, Stop> {
+) -> Result<Option<Track>, Stop> {
     let bytes = match read_file(session.rt, path) {
         Ok(bytes) => bytes,
-        Err(cause) => return Ok(Err(session.refuse(path, &cause)?.status())),
+        Err(cause) => {
+            session.refuse_beside(path, &cause)?;
+            return Ok(None);
+        }
     };
     match Track::read(session.rt.alloc(), bytes.as_slice())? {
         Ok(track) => {
-            let skipped = skip_points(session, path, track.skipped())?;
-            let cut_off = report_cut(session, path, &track)?;
-            Ok(Ok((track, skipped.or_worse(cut_off))))
+            skip_points(session, path, track.skipped())?;
+            report_cut(session, path, &track)?;
+            Ok(Some(track))
         }
-        Err(error) => Ok(Err(session.refuse(path, &error)?.status())),
+        Err(error) => {
+            session.refuse_beside(path, &error)?;
+            Ok(None)
+        }
     }
 }
 
-// Reports how many points of a track were skipped, if there were some, and answers its status.
+// Reports and counts that points of a track were skipped, if some were.
 fn skip_points<W: Sink, E: Sink>(
     session: &mut Session<'_, '_, W, E>,
     path: &str,
     count: usize,
-) -> Result<Status, Stop> {
+) -> Result<(), Stop> {
     if count == 0 {
-        return Ok(Status::Success);
+        return Ok(());
     }
     if count == 1 {
         session.say(path, &"1 point without a time or a location was skipped")?;
@@ -81,17 +86,18 @@ fn skip_points<W: Sink, E: Sink>(
         let text = format!(in alloc; "{count} points without a time or a location were skipped")?;
         session.say(path, &text)?;
     }
-    Ok(Status::Incomplete)
+    session.count_beside(Status::Incomplete);
+    Ok(())
 }
 
-// Reports that a track is cut off, if it is, and answers its status.
+// Reports and counts that a track is cut off, if it is.
 fn report_cut<W: Sink, E: Sink>(
     session: &mut Session<'_, '_, W, E>,
     path: &str,
     track: &Track,
-) -> Result<Status, Stop> {
+) -> Result<(), Stop> {
     if !track.is_cut_off() {
-        return Ok(Status::Success);
+        return Ok(());
     }
     let last = match track.points().last() {
         Some(point) => moment_at(point.time),
@@ -104,7 +110,8 @@ fn report_cut<W: Sink, E: Sink>(
     } else {
         session.say(path, &"the file is cut off; the track is used up to there")?;
     }
-    Ok(Status::Incomplete)
+    session.count_beside(Status::Incomplete);
+    Ok(())
 }
 
 // Sets the location of a file, if it is known.
@@ -114,18 +121,17 @@ fn geotag_file<W: Sink, E: Sink>(
     track: &Track,
     path: &str,
     key: &str,
-) -> Result<Status, Stop> {
-    let outcome = match location_of_file(session.rt, geotagging, track, key) {
+) -> Result<Outcome, Stop> {
+    match location_of_file(session.rt, geotagging, track, key) {
         Ok(Located::At(spot)) => {
             let outcome = relocate_file(session, geotagging, &spot, path, key)?;
             session.console.step(session.pending.len());
-            outcome
+            Ok(outcome)
         }
-        Ok(Located::Unknown(why)) => session.leave(path, &why)?,
-        Err(Error::OutOfMemory) => return Err(Stop::OutOfMemory),
-        Err(error) => session.refuse(path, &error)?,
-    };
-    Ok(session.count(outcome))
+        Ok(Located::Unknown(why)) => session.leave(path, &why),
+        Err(Error::OutOfMemory) => Err(Stop::OutOfMemory),
+        Err(error) => session.refuse(path, &error),
+    }
 }
 
 // Sets the location of a file and its time, and takes out what is of the old one.
@@ -165,41 +171,20 @@ fn replace_file<W: Sink, E: Sink>(
     path: &str,
     key: &str,
 ) -> Result<Outcome, Stop> {
-    let alloc = session.rt.alloc();
     let mut files = HostFiles::new(session.rt);
-    match change(alloc, &mut files, relocation, key, geotagging.keeping) {
+    let alloc = session.rt.alloc();
+    let changed = change(alloc, &mut files, relocation, key, geotagging.keeping);
+    let outcome = outcome_of(&changed);
+    match changed {
         Ok(report) => {
             for left in report.left.iter() {
                 session.say(path, left)?;
             }
-            Ok(Outcome::of_done(report.left.is_empty()))
         }
-        Err(failure) => refuse_change(session, failure, path, key),
+        Err(Failure::OutOfMemory) => return Err(Stop::OutOfMemory),
+        Err(failure) => session.say(path, &NotChanged { failure, key })?,
     }
-}
-
-// Reports why a file was not changed.
-fn refuse_change<W: Sink, E: Sink>(
-    session: &mut Session<'_, '_, W, E>,
-    failure: Failure<Refusal>,
-    path: &str,
-    key: &str,
-) -> Result<Outcome, Stop> {
-    let alloc = session.rt.alloc();
-    match failure {
-        Failure::OutOfMemory => Err(Stop::OutOfMemory),
-        Failure::Reading(cause) => session.refuse(path, &cause),
-        Failure::Refused(refusal) => session.refuse(path, &refusal),
-        Failure::Writing(WriteError::Taken) => {
-            let key = Escaped(key);
-            let text = format!(in alloc; "not changed: the backup {key}.orig exists")?;
-            session.refuse(path, &text)
-        }
-        Failure::Writing(cause) => {
-            let text = format!(in alloc; "cannot replace the file: {cause}")?;
-            session.refuse(path, &text)
-        }
-    }
+    Ok(outcome)
 }
 
 // The location of a file's picture; or why it can't be read.

@@ -1,5 +1,8 @@
 //! The JSON objects of a file.
 
+ghost use Rattle.std.specs.Prelude.{◌≡◌};
+ghost use Rattle.exif_commands.specs.Reads.{outcome_read};
+
 use exif::{Error, Exif, Sink, Tag};
 use exif_decisions::Outcome;
 use exif_formats::{Picture, PictureFormat};
@@ -58,6 +61,17 @@ fn object_of(
     }
 }
 
+// What is counted of a file of which this was read: one without Exif data is a success.
+fn outcome_of(answer: &Result<Exif, Error>) -> Outcome
+    ensures { result ≡ outcome_read answer.now }
+{
+    match answer {
+        Ok(_) | Err(Error::NotFound(_)) => Outcome::Done,
+        Err(Error::PartialResult(_)) => Outcome::Partial,
+        Err(_) => Outcome::Refused,
+    }
+}
+
 fn answered(
     alloc: Global,
     tags: Option<&Vec<Tag>>,
@@ -65,11 +79,7 @@ fn answered(
     format: Option<PictureFormat>,
     answer: Result<Exif, Error>,
 ) -> Result<(Vec<u8>, Outcome), AllocError> {
-    let outcome = match &answer {
-        Ok(_) | Err(Error::NotFound(_)) => Outcome::Done,
-        Err(Error::PartialResult(_)) => Outcome::Partial,
-        Err(_) => Outcome::Refused,
-    };
+    let outcome = outcome_of(&answer);
     let json = match tags {
         Some(tags) => json_of_tags(alloc, path, format, answer, tags.as_slice())?,
         None => json_of_answer(alloc, path, format, answer)?,

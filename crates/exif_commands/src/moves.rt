@@ -35,23 +35,20 @@ impl Folders {
         Ok(())
     }
 
-    /// Waits until the disk has all new names, once for each folder, and reports where it may not.
-    pub fn settle<W: Sink, E: Sink>(
-        self,
-        session: &mut Session<'_, '_, W, E>,
-    ) -> Result<Status, Stop> {
+    /// Waits until the disk has all new names, once for each folder. Where it may not have them, that
+    /// is reported and counted.
+    pub fn settle<W: Sink, E: Sink>(self, session: &mut Session<'_, '_, W, E>) -> Result<(), Stop> {
         let mut files = HostFiles::new(session.rt);
-        let mut worst = Status::Success;
         for name in self.names.iter() {
             if let Err(cause) = files.settle(name.as_str()) {
                 let why = format!(in session.rt.alloc();
                     "folder not synced; a power loss may undo the renames: {cause}"
                 )?;
                 session.say(folder_of(name.as_str()), &why)?;
-                worst = worst.or_worse(Status::Incomplete);
+                session.count_beside(Status::Incomplete);
             }
         }
-        Ok(worst)
+        Ok(())
     }
 }
 

@@ -5,7 +5,7 @@ use crate::names::{Named, new_name, split_name};
 use crate::present::{Sizes, There, find_there};
 use exif::Sink;
 use exif_decisions::{Escaped, Found, NotRead, Outcome, ending_of};
-use exif_files::{HostFiles, Status, folder_of};
+use exif_files::{HostFiles, folder_of};
 use exif_rename::{
     Entry, Moment, PlanError, Shot, Wish, WishFile, compare_shots, group, plan_names, root_of,
 };
@@ -49,51 +49,41 @@ struct Stem {
     moment: Option<Moment>,
 }
 
-/// Gives each file that is named or found its new name, and answers the worst status. All names are
-/// planned before the first file is moved: nothing has them, and no two files get one. The files of
+/// Gives each file that is named or found its new name, and counts it. All names are planned before the first file is moved: nothing has them, and no two files get one. The files of
 /// one stem in one folder (pictures, videos, sidecars) get one name, by the first picture that has
 /// what the pattern requires; where none has, they are left and reported.
 pub fn rename_files<W: Sink, E: Sink>(
     session: &mut Session<'_, '_, W, E>,
     renaming: &Renaming<'_>,
-) -> Result<Status, Stop> {
+) -> Result<(), Stop> {
     let alloc = session.rt.alloc();
     let into = match into_folder(session.rt, renaming) {
         Ok(into) => into,
-        Err(cause) => {
-            return Ok(
-                session
-                    .refuse(renaming.into.unwrap_or(""), &cause)?
-                    .status(),
-            );
-        }
+        Err(cause) => return session.refuse_beside(renaming.into.unwrap_or(""), &cause),
     };
     let mut members = Vec::new(alloc);
-    let failed = gather(session, &mut members)?;
+    gather(session, &mut members)?;
     let mut stems = Vec::new(alloc);
-    let left = add_stems(session, renaming, &into, members.as_slice(), &mut stems)?;
+    add_stems(session, renaming, &into, members.as_slice(), &mut stems)?;
     sort_stems(&mut stems)?;
-    let planned = carry_out(session, renaming, stems)?;
-    Ok(failed.or_worse(left).or_worse(planned))
+    carry_out(session, renaming, stems)
 }
 
-// Plans the new names of all files, those of one stem together, and answers the worst status of
-// those that stay.
+// Plans the new names of all files, those of one stem together, and counts those that stay.
 fn add_stems<W: Sink, E: Sink>(
     session: &mut Session<'_, '_, W, E>,
     renaming: &Renaming<'_>,
     into: &str,
     members: &[Member],
     stems: &mut Vec<Stem>,
-) -> Result<Status, Stop> {
+) -> Result<(), Stop> {
     let alloc = session.rt.alloc();
     let leaders = group(alloc, entries_of(alloc, members)?.as_slice())?;
-    let mut worst = Status::Success;
     let mut together = Vec::new(alloc);
     let mut last = None;
     for (leader, _, index) in order_of(alloc, members, leaders.as_slice())? {
         if last != Some(leader) {
-            worst = worst.or_worse(add_stem(session, renaming, into, &together, stems)?);
+            add_stem(session, renaming, into, &together, stems)?;
             together.clear();
             last = Some(leader);
         }
@@ -101,7 +91,7 @@ fn add_stems<W: Sink, E: Sink>(
             together.push(member)?;
         }
     }
-    Ok(worst.or_worse(add_stem(session, renaming, into, &together, stems)?))
+    add_stem(session, renaming, into, &together, stems)
 }
 
 // Sorts stems by when their pictures were taken.
@@ -131,18 +121,17 @@ fn into_folder(rt: &HostRuntime, renaming: &Renaming<'_>) -> io::Result<String> 
     }
 }
 
-// Adds all files of the run, and answers the worst status of names that lead to none.
+// Adds all files of the run, and counts the names that lead to none.
 fn gather<W: Sink, E: Sink>(
     session: &mut Session<'_, '_, W, E>,
     members: &mut Vec<Member>,
-) -> Result<Status, Stop> {
+) -> Result<(), Stop> {
     let mut seen = BTreeSet::new(session.rt.alloc());
-    let mut worst = Status::Success;
     for _ in 0..u64::MAX {
         let Some(next) = session.next_chosen()? else {
             break;
         };
-        let status = match next {
+        match next {
             Next::Input => refuse(session, "-", &"standard input has no name")?,
             Next::Failed(path, cause) => refuse(session, path.as_str(), &cause)?,
             Next::Named(path) | Next::Found(path) => {
@@ -151,11 +140,10 @@ fn gather<W: Sink, E: Sink>(
             Next::Beside(path, why) => {
                 add_file(session, members, &mut seen, path, Kind::Beside(why))?
             }
-        };
-        worst = worst.or_worse(status);
+        }
     }
     add_sidecars(session.rt, members, &mut seen)?;
-    Ok(worst)
+    Ok(())
 }
 
 // Adds a file, once however often it is named.
@@ -165,13 +153,13 @@ fn add_file<W: Sink, E: Sink>(
     seen: &mut BTreeSet<String>,
     path: String,
     kind: Kind,
-) -> Result<Status, Stop> {
+) -> Result<(), Stop> {
     match key_of(session.rt, path.as_str()) {
         Ok(key) => {
             if seen.insert(key.clone()?)? {
                 members.push(Member { path, key, kind })?;
             }
-            Ok(Status::Success)
+            Ok(())
         }
         Err(cause) => refuse(session, path.as_str(), &cause),
     }
@@ -262,8 +250,7 @@ fn add_stem<W: Sink, E: Sink>(
     into: &str,
     together: &[&Member],
     stems: &mut Vec<Stem>,
-) -> Result<Status, Stop> {
-    let mut worst = Status::Success;
+) -> Result<(), Stop> {
     for member in together {
         if !matches!(member.kind, Kind::Picture) {
             continue;
@@ -277,15 +264,13 @@ fn add_stem<W: Sink, E: Sink>(
                     path: member.path.clone()?,
                     moment,
                 })?;
-                return Ok(worst);
+                return Ok(());
             }
             Ok(Named::Missing(_)) => {}
-            Err(error) => {
-                worst = worst.or_worse(refuse(session, member.path.as_str(), &error)?);
-            }
+            Err(error) => refuse(session, member.path.as_str(), &error)?,
         }
     }
-    Ok(worst.or_worse(leave_all(session, renaming, together)?))
+    leave_all(session, renaming, together)
 }
 
 // Reports why the files of a stem stay as they are: no picture of theirs has what the pattern
@@ -294,8 +279,7 @@ fn leave_all<W: Sink, E: Sink>(
     session: &mut Session<'_, '_, W, E>,
     renaming: &Renaming<'_>,
     together: &[&Member],
-) -> Result<Status, Stop> {
-    let mut worst = Status::Success;
+) -> Result<(), Stop> {
     for member in together {
         let path = member.path.as_str();
         match member.kind {
@@ -303,7 +287,7 @@ fn leave_all<W: Sink, E: Sink>(
                 let named = new_name(session.rt, renaming, member.key.as_str())?;
                 if let Ok(Named::Missing(missing)) = named {
                     let outcome = session.leave(path, &missing)?;
-                    worst = worst.or_worse(session.count(outcome));
+                    session.count(outcome);
                 }
             }
             Kind::Beside(why) => session.skip(path, Found::NotRead(why))?,
@@ -314,7 +298,7 @@ fn leave_all<W: Sink, E: Sink>(
             }
         }
     }
-    Ok(worst)
+    Ok(())
 }
 
 // How many files are sidecars.
@@ -361,8 +345,6 @@ struct Planned {
     wishes: Vec<Wish>,
     // the path of the first picture of each, as it was named or found
     paths: Vec<String>,
-    // the worst status of the others
-    worst: Status,
 }
 
 // Plans the numbers of the names, and moves the files or writes what would be moved.
@@ -370,17 +352,13 @@ fn carry_out<W: Sink, E: Sink>(
     session: &mut Session<'_, '_, W, E>,
     renaming: &Renaming<'_>,
     stems: Vec<Stem>,
-) -> Result<Status, Stop> {
+) -> Result<(), Stop> {
     let alloc = session.rt.alloc();
     let moving = Moving {
         copy: renaming.copy,
         dry_run: renaming.dry_run,
     };
-    let Planned {
-        wishes,
-        paths,
-        mut worst,
-    } = leave_there(session, renaming, stems)?;
+    let Planned { wishes, paths } = leave_there(session, renaming, stems)?;
     let numbers = match plan_names(alloc, &mut HostFiles::new(session.rt), wishes.as_slice()) {
         Ok(numbers) => numbers,
         Err(PlanError::OutOfMemory) => return Err(Stop::OutOfMemory),
@@ -400,10 +378,9 @@ fn carry_out<W: Sink, E: Sink>(
         } else {
             move_all(session, moving, &mut moved, path, moves.as_slice())?
         };
-        worst = worst.or_worse(session.count(outcome));
+        session.count(outcome);
     }
-    let settled = moved.settle(session)?;
-    Ok(worst.or_worse(settled))
+    moved.settle(session)
 }
 
 // The files that are to be planned: not those of which another folder, or a copy, has the bytes by
@@ -418,14 +395,13 @@ fn leave_there<W: Sink, E: Sink>(
     let mut planned = Planned {
         wishes: Vec::new(alloc),
         paths: Vec::new(alloc),
-        worst: Status::Success,
     };
     for stem in stems {
         if renaming.copy || renaming.into.is_some() {
             let found = find_there(session.rt, &mut sizes, &stem.wish, stem.sidecars)?;
             if let Some(there) = found {
                 let outcome = report_there(session, renaming.copy, stem.path.as_str(), &there)?;
-                planned.worst = planned.worst.or_worse(session.count(outcome));
+                session.count(outcome);
                 continue;
             }
         }
@@ -466,7 +442,8 @@ fn refuse<W: Sink, E: Sink, T: std::fmt::Display>(
     session: &mut Session<'_, '_, W, E>,
     path: &str,
     cause: &T,
-) -> Result<Status, Stop> {
+) -> Result<(), Stop> {
     let outcome = session.refuse(path, cause)?;
-    Ok(session.count(outcome))
+    session.count(outcome);
+    Ok(())
 }

@@ -2,10 +2,9 @@
 
 use exif::{Counted, Error, Sink};
 use exif_base::send_all;
-use exif_console::Lines;
 use exif_decisions::{Escaped, Outcome};
 use exif_report::{found_of, write_all};
-use exif_session::{Input, Reading, Session, Stop, open, read};
+use exif_session::{Input, Lines, Reading, Session, Stop, open, read};
 use std::alloc::Global;
 
 /// Writes the report of a file, and answers its status.

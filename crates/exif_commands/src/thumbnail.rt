@@ -1,11 +1,11 @@
 //! Thumbnails that are written to files.
 
 use exif::{Error, Sink};
-use exif_change::{Refusal, thumbnail};
-use exif_decisions::{Found, Outcome};
-use exif_files::Status;
+use exif_change::Refusal;
+use exif_decisions::Outcome;
 use exif_rename::give_unused;
-use exif_session::{Next, Session, Stop, exif_of, name_of, out_of, write_out};
+use exif_session::{Item, Session, Stop, name_of, out_of, thumbnail_of, write_out};
+use exif_thumbnails::Thumbnail;
 use std::alloc::{AllocError, Global};
 use std::collections::BTreeSet;
 use std::fs;
@@ -25,35 +25,27 @@ pub fn write_thumbnail<W: Sink, E: Sink>(
 }
 
 /// Writes the thumbnail of each picture that is named or found into a folder, which is made if it
-/// is not there, and answers the worst status. No two of them get one name.
+/// is not there, and counts the pictures. No two of them get one name.
 pub fn write_thumbnails<W: Sink, E: Sink>(
     session: &mut Session<'_, '_, W, E>,
     folder: &str,
     force: bool,
-) -> Result<Status, Stop> {
+) -> Result<(), Stop> {
     // where it can't be made, no thumbnail can be written, and that is reported
     let _ = fs::create_dir_all(session.rt, folder);
     let mut given = BTreeSet::new(session.rt.alloc());
-    let mut worst = Status::Success;
     for _ in 0..u64::MAX {
-        let Some(next) = session.next_chosen()? else {
-            break;
-        };
-        let outcome = match next {
-            Next::Beside(path, why) => {
-                session.skip(path.as_str(), Found::NotRead(why))?;
-                continue;
-            }
-            Next::Failed(path, cause) => session.refuse(path.as_str(), &cause)?,
-            Next::Input => write_into(session, &mut given, "-", folder, force)?,
-            Next::Named(path) | Next::Found(path) => {
+        let outcome = match session.next_item()? {
+            None => break,
+            Some(Item::Input) => write_into(session, &mut given, "-", folder, force)?,
+            Some(Item::File(path)) => {
                 write_into(session, &mut given, path.as_str(), folder, force)?
             }
         };
-        worst = worst.or_worse(session.count(outcome));
+        session.count(outcome);
         session.console.step(session.pending.len());
     }
-    Ok(worst)
+    Ok(())
 }
 
 // Writes the thumbnail of a picture into a folder, to a file that no other picture of the run got.
@@ -97,14 +89,20 @@ fn write_jpeg<W: Sink, E: Sink>(
 
 // The thumbnail of a picture.
 fn thumbnail_in(rt: &HostRuntime, path: &str) -> Result<Vec<u8>, Refusal> {
-    let exif = match exif_of(rt, path) {
-        Ok(exif) => exif,
-        Err(Error::OutOfMemory) => return Err(Refusal::OutOfMemory),
-        Err(error) => return Err(Refusal::Reading(error)),
-    };
-    match thumbnail(&exif) {
-        Some(jpeg) => Ok(Vec::from_slice(rt.alloc(), jpeg)?),
-        None => Err(Refusal::NoThumbnail),
+    match thumbnail_of(rt, path) {
+        Ok(Some(Thumbnail::Jpeg(jpeg))) => Ok(jpeg),
+        Ok(Some(Thumbnail::TooLong)) => Err(Refusal::Reading(Error::InvalidFormat(
+            "The thumbnail is longer than 1 MiB",
+        ))),
+        Ok(Some(Thumbnail::CutOff)) => Err(Refusal::Reading(Error::InvalidFormat(
+            "The thumbnail is cut off",
+        ))),
+        Ok(Some(Thumbnail::Item(_coding))) => Err(Refusal::Reading(Error::InvalidFormat(
+            "The thumbnail is an item of the HEIF file, which is not read",
+        ))),
+        Ok(None) => Err(Refusal::NoThumbnail),
+        Err(Error::OutOfMemory) => Err(Refusal::OutOfMemory),
+        Err(error) => Err(Refusal::Reading(error)),
     }
 }
 

@@ -3,7 +3,6 @@
 use crate::moves::{Folders, Moving, move_all};
 use exif::Sink;
 use exif_decisions::{Escaped, Outcome};
-use exif_files::Status;
 use exif_rename::{Move, Step, parse_line};
 use exif_session::{Session, Stop, read_file};
 use std::alloc::{AllocError, Global};
@@ -11,17 +10,17 @@ use std::collections::BTreeMap;
 use std::fs;
 
 /// Gives the files of a run of `rename` their old names back, by the lines that it wrote, the last
-/// first, and answers the worst status. Nothing is done where one of the lines is none of such a
+/// first, and counts them. Nothing is done where one of the lines is none of such a
 /// run. No file is overwritten.
 pub fn undo_renames<W: Sink, E: Sink>(
     session: &mut Session<'_, '_, W, E>,
     dry_run: bool,
-) -> Result<Status, Stop> {
+) -> Result<(), Stop> {
     let alloc = session.rt.alloc();
     let path = session.request.paths.first().copied().unwrap_or("-");
     let lines = match read_file(session.rt, path) {
         Ok(lines) => lines,
-        Err(cause) => return Ok(session.refuse(path, &cause)?.status()),
+        Err(cause) => return session.refuse_beside(path, &cause),
     };
     let mut steps = match steps_of(alloc, lines.as_slice())? {
         Ok(steps) => steps,
@@ -29,7 +28,7 @@ pub fn undo_renames<W: Sink, E: Sink>(
             let why = format!(in alloc;
                 "line {number} is no line of rename, as 'OLD -> NEW'; nothing is done"
             )?;
-            return Ok(session.refuse(path, &why)?.status());
+            return session.refuse_beside(path, &why);
         }
     };
     let mut undoing = Undoing {
@@ -37,16 +36,14 @@ pub fn undo_renames<W: Sink, E: Sink>(
         folders: Folders::new(alloc),
         names: BTreeMap::new(alloc),
     };
-    let mut worst = Status::Success;
     for _ in 0..steps.len() {
         let Some(step) = steps.pop() else {
             break;
         };
         let outcome = undoing.take_back(session, step)?;
-        worst = worst.or_worse(session.count(outcome));
+        session.count(outcome);
     }
-    let settled = undoing.folders.settle(session)?;
-    Ok(worst.or_worse(settled))
+    undoing.folders.settle(session)
 }
 
 // What the lines of a run say, or the number of the first that is none.

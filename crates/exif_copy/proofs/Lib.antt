@@ -1,2 +1,4 @@
 pub mod FoundSteps
 pub mod PlacedSteps
+mod Blocks
+mod Chunks

@@ -4,11 +4,11 @@ use Rattle.exif_types.specs.Refusals.{Refusal, not_supported, ◌>>=◌}
 use Rattle.exif_formats.specs.declared.format.PictureFormat.{PictureFormat}
 use Rattle.exif_formats.specs.declared.format.PictureFormat.TheVariants as format
 use Rattle.exif_change.specs.Changed.{Change}
-use Rattle.exif_xmp_icc.specs.Packets.{xmp_of}
-use Rattle.exif_xmp_icc.specs.Profiles.{profile_of}
-use Rattle.exif_xmp_icc.specs.Put.{with_profile, with_xmp}
-use Rattle.exif_xmp_icc.specs.declared.putting.Container.{Container}
-use Rattle.exif_xmp_icc.specs.declared.putting.Container.TheVariants as container
+use Rattle.exif_copy.specs.Packets.{xmp_of}
+use Rattle.exif_copy.specs.Profiles.{profile_of}
+use Rattle.exif_copy.specs.Put.{with_profile, with_xmp}
+use Rattle.exif_copy.specs.declared.xmp_icc.putting.Container.{Container}
+use Rattle.exif_copy.specs.declared.xmp_icc.putting.Container.TheVariants as container
 use Rattle.exif_copy.specs.Found.{exif_found, format_for}
 use Rattle.exif_copy.specs.declared.selected.Selection.{Selection}
 

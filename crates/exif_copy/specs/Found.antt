@@ -3,8 +3,8 @@
 use Rattle.std.specs.Prelude.{ℕ, List, take, codes, Option, None, Some, Result, Err}
 use Rattle.exif_types.specs.Refusals.{Refusal, not_supported, ◌>>=◌}
 use Rattle.exif_containers.specs.Container.{container_answer, data_of, unknown_format}
-use Rattle.exif_jxl.specs.Jxl.{jxl_answer}
-use Rattle.exif_raw.specs.Raf.{raf_answer}
+use Rattle.exif_formats.specs.Jxl.{jxl_answer}
+use Rattle.exif_formats.specs.Raf.{raf_answer}
 use Rattle.exif_formats.specs.Formats.{format_in}
 use Rattle.exif_formats.specs.Pictures.{png_data}
 use Rattle.exif_formats.specs.declared.format.PictureFormat.{PictureFormat}

@@ -4,4 +4,14 @@ pub mod Placed
 pub mod Copied
 pub mod Blocks
 pub mod Selected
+pub mod Errors
 pub mod Examples
+pub mod Parts
+pub mod Packets
+pub mod Profiles
+pub mod JpegSegments
+pub mod Zlib
+pub mod PngChunks
+pub mod WebpChunks
+pub mod Put
+pub mod BlockExamples

@@ -12,7 +12,7 @@ use Rattle.exif_types.specs.declared.value.Value.TheVariants.{Short, Long}
 use Rattle.exif_edit_base.specs.Causes.{Cause, ◌>>=◌}
 use Rattle.exif_edit_base.specs.EntryLimit.{within_limit}
 use Rattle.exif_edit.specs.Removing.{field_answer}
-use Rattle.exif_grow_fields.specs.Fields.{fields_grown}
+use Rattle.exif_grow.specs.Fields.{fields_grown}
 use Rattle.exif_change.specs.Reading.{entry_limit}
 use Rattle.exif_change.specs.Setting.{primary}
 

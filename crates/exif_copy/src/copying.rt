@@ -1,11 +1,12 @@
 //! The Exif data of one picture copied into another one.
 
-ghost use Rattle.std.specs.Prelude.{ℕ, List, Result};
+ghost use Rattle.std.specs.Prelude.{◌≡◌, ℕ, List, Result};
 ghost use Rattle.exif_edit_base.specs.Causes.{Cause, Makes};
 ghost use Rattle.exif_change.specs.Changed.{change_of};
 ghost use Rattle.exif_change.specs.Reading.{contents_of};
 ghost use Rattle.exif_change.specs.Refusals.{Answers, as_edited};
 ghost use Rattle.exif_copy.specs.Copied.{copied, placed_shaped, shaped};
+ghost use Rattle.exif_copy.specs.Errors.{editing};
 ghost use Rattle.exif_copy.specs.declared.copying.Shape.TheVariants.{Target};
 
 use crate::found::{exif_found, format_for};
@@ -27,7 +28,8 @@ pub enum Shape {
 
 // What was edited, or why it was not.
 fn as_edited(answer: Result<Vec<u8>, exif_edit::Error>) -> Result<Vec<u8>, Refusal>
-    ensures { (made : Result (List ℕ) Cause) → Makes (λ v. v.items) answer made
+    ensures same { result ≡ editing answer }
+    ensures made { (made : Result (List ℕ) Cause) → Makes (λ v. v.items) answer made
         → Answers (λ v. v.items) result (as_edited made) }
 {
     match answer {
@@ -85,7 +87,7 @@ fn copied_shaped(alloc: Global, exif: &Exif, to: &[u8], shape: Shape) -> Result<
 /// and PixelXDimension, PixelYDimension, ImageWidth and ImageLength are what these data tell, or
 /// else are erased. Fields that the copied data lack are not added. Where a name occurs more than
 /// once each field of it is set. Refusals are then those of
-/// [`set_fields`](exif_grow_fields::set_fields) and
+/// [`set_fields`](exif_grow::set_fields) and
 /// [`erase_field`](exif_edit::remove::erase_field), too.
 ///
 /// It takes the memory of the Exif data of `from` with their fields, and of the new file, of a WebP

@@ -5,8 +5,8 @@ ghost use Rattle.exif_types.specs.Refusals.{Gives, refusal_of};
 ghost use Rattle.exif_tiff.specs.Answers.{raw_answer};
 ghost use Rattle.exif_reader.specs.Readings.{ReadsAs};
 ghost use Rattle.exif_containers.specs.Container.{container_answer, data_of};
-ghost use Rattle.exif_jxl.specs.Jxl.{jxl_answer};
-ghost use Rattle.exif_raw.specs.Raf.{raf_answer};
+ghost use Rattle.exif_formats.specs.Jxl.{jxl_answer};
+ghost use Rattle.exif_formats.specs.Raf.{raf_answer};
 ghost use Rattle.exif_formats.specs.Pictures.{png_data};
 ghost use Rattle.exif_change.specs.Reading.{contents_of, data_contents, entry_limit, faults_skipped};
 ghost use Rattle.exif_copy.specs.Found.{data_found, exif_found, format_for, raw_refused, tiff_refused};
@@ -15,10 +15,10 @@ use exif::{Counted, Error, Exif, Reader};
 use exif_change::ENTRY_LIMIT;
 use exif_containers::container::SNIFF_LEN;
 use exif_containers::exif_attr_of_stream;
+use exif_formats::jxl::get_exif_attr_from_jxl;
+use exif_formats::png::get_exif_attr_from_png;
+use exif_formats::raw::raf;
 use exif_formats::{PictureFormat, format_of};
-use exif_jxl::get_exif_attr_from_jxl;
-use exif_png::get_exif_attr_from_png;
-use exif_raw::raf;
 use std::alloc::Global;
 
 /// The format of a picture, by its first 4096 bytes.

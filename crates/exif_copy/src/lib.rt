@@ -11,6 +11,7 @@ mod found;
 mod placing;
 mod selected;
 mod shaping;
+pub mod xmp_icc;
 
 pub use copying::{Shape, copy_exif};
 pub use selected::{Selection, check_source, copy_selected};

@@ -6,6 +6,7 @@ ghost use Rattle.exif_segments.specs.declared.remove.Remove.TheVariants as remov
 ghost use Rattle.exif_change.specs.Changed.{Change, change_of, whole};
 ghost use Rattle.exif_change.specs.Refusals.{Answers, as_read, why_of};
 ghost use Rattle.exif_change.specs.Rewriting.{if_whole, rewritten_jpeg, rewritten_webp};
+ghost use Rattle.exif_copy.specs.Errors.{reading};
 ghost use Rattle.exif_copy.specs.Placed.{placed, png_made, target_refused};
 
 use exif::{Counted, Error};
@@ -85,7 +86,8 @@ fn target_refused() -> Refusal
 
 /// What was put into its place, or why nothing was.
 pub(crate) fn as_read(answer: Result<Changed, Error>) -> Result<Changed, Refusal>
-    ensures { (made : Result Change Refused) → Gives change_of answer.entry made
+    ensures same { result ≡ reading answer.entry }
+    ensures made { (made : Result Change Refused) → Gives change_of answer.entry made
         → Answers change_of result (as_read made) }
 {
     match answer {

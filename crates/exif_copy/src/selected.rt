@@ -11,10 +11,10 @@ ghost use Rattle.exif_copy.specs.Selected.{selected, with_color, with_packet};
 use crate::copying::{Shape, copy_exif};
 use crate::found::{exif_found, format_for};
 use crate::placing::as_read;
+use crate::xmp_icc::{Container, profile_of, with_profile, with_xmp, xmp_of};
 use exif::Error;
 use exif_change::{Changed, Refusal};
 use exif_formats::PictureFormat;
-use exif_xmp_icc::{Container, profile_of, with_profile, with_xmp, xmp_of};
 use std::alloc::Global;
 
 /// What of a picture is copied.
@@ -136,7 +136,7 @@ pub fn check_source(alloc: Global, from: &[u8], selection: Selection) -> Result<
 
 /// The file `to` with the Exif data of the file `from` in place of its own, as [`copy_exif`] puts
 /// them, and with the XMP packet and the colour profile of `from`, where they are selected, as
-/// [`with_xmp`](exif_xmp_icc::with_xmp) and [`with_profile`](exif_xmp_icc::with_profile) put them.
+/// [`with_xmp`](crate::xmp_icc::with_xmp) and [`with_profile`](crate::xmp_icc::with_profile) put them.
 /// All else stays as it is.
 ///
 /// A file `from` without a packet or a profile that is selected is refused with

@@ -11,7 +11,7 @@ use exif_change::ENTRY_LIMIT;
 use exif_edit::remove::erase_field;
 use exif_edit_base::Error;
 use exif_edit_base::limit::check_limit;
-use exif_grow_fields::set_fields;
+use exif_grow::set_fields;
 use std::alloc::{AllocError, Global};
 
 // The number that a picture tells by a field.

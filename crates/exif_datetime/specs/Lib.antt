@@ -1,1 +1,4 @@
 pub mod Dates
+pub mod Calendar
+pub mod Numbers
+pub mod Shift

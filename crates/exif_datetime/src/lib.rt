@@ -1,6 +1,14 @@
-//! Dates with their time of day, made of the parts that `exif_text` reads.
+//! Dates with their time of day: as Exif data have them, in the calendar, and moved by a shift of a
+//! clock.
 #![tactic(auto)]
 
+mod calendar;
 pub mod datetime;
+pub mod laws;
+mod numbers;
+mod shift;
 
+pub use calendar::is_day;
 pub use datetime::DateTime;
+pub use numbers::{cut, number_below};
+pub use shift::{ClockShift, Unmoved, moved_value, stated};

@@ -1,5 +1,5 @@
 -- What the program does with a name, an OUT and a word.
-use Rattle.std.specs.Prelude.{ℕ, List, [], ◌∷◌, Bool, true, false, ◌||◌, ◌&&◌, ◌==◌, if◌then◌else◌, nat_eq, nat_lt, length, drop, codes}
+use Rattle.std.specs.Prelude.{ℕ, List, [], ◌∷◌, Bool, true, false, ◌||◌, ◌&&◌, ◌==◌, if◌then◌else◌, nat_eq, nat_lt, length, drop, codes, Result, Ok, Err}
 use Rattle.std.specs.Char.{is_ascii_digit}
 use Rattle.std.specs.List.{starts_with, ends_with, list_all}
 use Rattle.exif_decisions.specs.declared.rules.Kind.{Kind}
@@ -7,9 +7,12 @@ use Rattle.exif_decisions.specs.declared.rules.Kind.TheVariants.{File, Folder, L
 use Rattle.exif_decisions.specs.declared.rules.Action.{Action}
 use Rattle.exif_decisions.specs.declared.rules.Action.TheVariants.{Process, ProcessPicture, Enter, RefuseFolder, SkipLink, SkipOwn, Ignore}
 use Rattle.exif_decisions.specs.declared.rules.Existing.{Existing}
-use Rattle.exif_decisions.specs.declared.rules.Existing.TheVariants.{Absent, Regular, Special}
+use Rattle.exif_decisions.specs.declared.rules.Existing.TheVariants.{Absent, Regular}
+use Rattle.exif_decisions.specs.declared.rules.Existing.TheVariants as existing
 use Rattle.exif_decisions.specs.declared.rules.Destination.{Destination}
-use Rattle.exif_decisions.specs.declared.rules.Destination.TheVariants.{StandardOutput, New, Replace, RefuseSame, RefuseExisting, RefuseOther}
+use Rattle.exif_decisions.specs.declared.rules.Destination.TheVariants.{StandardOutput, New, Replace}
+use Rattle.exif_decisions.specs.declared.rules.NoDestination.{NoDestination}
+use Rattle.exif_decisions.specs.declared.rules.NoDestination.TheVariants.{Same, Exists, Special}
 
 -- What is done with a path. One that was named is processed, whatever its name and kind; a folder
 -- is entered only where folders are. Of those found in folders, links are never followed, and the
@@ -36,12 +39,13 @@ is_own name = starts_with nat_eq name (codes ".mexaldor-") || ends_with nat_eq n
 
 -- Where OUT is written: never over FILE itself, nor over what is no regular file, and over a file
 -- only if that is forced.
-abbrev pub destination_for : Bool → Bool → Existing → Bool → Destination
-destination_for true is_same existing force = StandardOutput
-destination_for false true existing force = RefuseSame
-destination_for false false Absent force = New
-destination_for false false Regular force = if force then Replace else RefuseExisting
-destination_for false false Special force = if force then RefuseOther else RefuseExisting
+abbrev pub destination_for : Bool → Bool → Existing → Bool → Result Destination NoDestination
+destination_for true is_same there force = Ok StandardOutput
+destination_for false true there force = Err Same
+destination_for false false Absent force = Ok New
+destination_for false false Regular force = if force then Ok Replace else Err Exists
+destination_for false false existing.Special force =
+    if force then Err Special else Err Exists
 
 -- an assignment has a `=` (61) and before it no `/` (47)
 abbrev pub assigns : List ℕ → Bool

@@ -1,9 +1,10 @@
 -- How files are counted, and the status of a run.
-use Rattle.std.specs.Prelude.{ℕ, ◌+◌, ◌-◌, ◌^◌, min}
-use Rattle.std.specs.Prelude.{zero, suc}
+use Rattle.std.specs.Prelude.{◌≡◌, ℕ, ◌+◌, ◌-◌, ◌^◌, min, nat_lt, Bool, true, false, ◌||◌}
 use Rattle.exif_files.specs.declared.outcome.Status.{Status}
-use Rattle.exif_files.specs.declared.outcome.Status.TheVariants.{Incomplete}
+use Rattle.exif_files.specs.declared.outcome.Status.TheVariants.{Success, Incomplete}
+use Rattle.exif_files.specs.declared.outcome.Status.TheVariants as status
 use Rattle.exif_files.specs.Statuses.{worse}
+use Rattle.exif_decisions.specs.declared.counts.Counts.{Counts}
 use Rattle.exif_decisions.specs.declared.found.Found.{Found}
 use Rattle.exif_decisions.specs.declared.found.Found.TheVariants as found
 use Rattle.exif_decisions.specs.declared.outcome.Outcome.{Outcome}
@@ -59,7 +60,25 @@ counted_others found.Picture n = n
 counted_others (found.NotRead why) n = n
 counted_others found.Other n = one_more n
 
--- the worst status, and not a success where something was not read
-abbrev pub status_after : Status → ℕ → Status
-status_after worst zero = worst
-status_after worst (suc n) = worse worst Incomplete
+-- the status after files of which some were refused, or were not wholly done
+abbrev pub status_of_files : Bool → Bool → Status
+status_of_files true part = status.Refused
+status_of_files false true = Incomplete
+status_of_files false false = Success
+
+-- the status of a run: the worst of its files', where one that was not read is no success, and of
+-- what became of things beside them
+abbrev pub status_in : Counts → Status
+status_in counts =
+    worse (status_of_files (nat_lt 0 counts.refused)
+    (nat_lt 0 counts.partial || nat_lt 0 counts.unchanged || nat_lt 0 counts.not_read))
+    counts.beside
+
+-- the same files were counted
+pub record AreSameFiles (old new : Counts) : Type 0 where
+  pub done : new.done ≡ old.done
+  pub partial : new.partial ≡ old.partial
+  pub current : new.current ≡ old.current
+  pub unchanged : new.unchanged ≡ old.unchanged
+  pub refused : new.refused ≡ old.refused
+  pub not_read : new.not_read ≡ old.not_read

@@ -1,8 +1,9 @@
 //! How many files were processed, refused and skipped.
 
 ghost use Rattle.std.specs.Prelude.{◌≡◌};
-ghost use Rattle.exif_files.specs.declared.outcome.Status.{Status};
-ghost use Rattle.exif_decisions.specs.Tallies.{counted_done, counted_partial, counted_current, counted_unchanged, counted_refused, counted_not_read, counted_others, one_more, status_after};
+ghost use Rattle.exif_files.specs.Statuses.{worse};
+ghost use Rattle.exif_decisions.specs.Tallies.{AreSameFiles, counted_done, counted_partial, counted_current, counted_unchanged, counted_refused, counted_not_read, counted_others, one_more, status_in};
+ghost use Rattle.exif_decisions.specs.Outcomes.{status_for};
 
 use crate::endings::Ending;
 use crate::formats::{ALL, Unsupported};
@@ -35,6 +36,8 @@ pub struct Counts {
     pub links: u64,
     /// Files of the program's own that were found in folders.
     pub own: u64,
+    /// What became, at worst, of what is no file of the run: a track, a catalogue, a folder.
+    pub beside: Status,
     // those that were not read: by formats, in the order of `ALL`
     formats: [u64; 9],
     // damaged or empty
@@ -56,6 +59,7 @@ impl Counts {
             others: 0,
             links: 0,
             own: 0,
+            beside: Status::Success,
             formats: [0; 9],
             damaged: 0,
             sidecars: [0; 3],
@@ -70,6 +74,8 @@ impl Counts {
         ensures unchanged { self.new.unchanged ≡ counted_unchanged outcome self.old.unchanged }
         ensures refused { self.new.refused ≡ counted_refused outcome self.old.refused }
         ensures not_read { self.new.not_read ≡ self.old.not_read }
+        ensures beside { self.new.beside ≡ self.old.beside }
+        ensures status { status_in self.new ≡ worse (status_in self.old) (status_for outcome) }
     {
         match outcome {
             Outcome::Done => self.done = self.done.saturating_add(1),
@@ -83,12 +89,38 @@ impl Counts {
         }
     }
 
+    /// What became of something that is no file of the run.
+    pub fn add_beside(&mut self, status: Status)
+        ensures beside { self.new.beside ≡ worse self.old.beside status }
+        ensures files { AreSameFiles self.old self.new }
+    {
+        self.beside = self.beside.or_worse(status);
+    }
+
+    /// The status of the run: refused where a file was, incomplete where with one not all was done,
+    /// or one was not read; and not better than what became of things beside the files.
+    pub fn status(&self) -> Status
+        ensures { result ≡ status_in self.now }
+    {
+        let files = if self.refused > 0 {
+            Status::Refused
+        } else if self.partial > 0 || self.unchanged > 0 || self.not_read > 0 {
+            Status::Incomplete
+        } else {
+            Status::Success
+        };
+        files.or_worse(self.beside)
+    }
+
     /// One more file that was found in a folder, and is skipped unless it is a picture.
     pub fn skip(&mut self, found: Found)
         ensures not_read { self.new.not_read ≡ counted_not_read found self.old.not_read }
         ensures others { self.new.others ≡ counted_others found self.old.others }
         ensures done { self.new.done ≡ self.old.done }
+        ensures partial { self.new.partial ≡ self.old.partial }
+        ensures unchanged { self.new.unchanged ≡ self.old.unchanged }
         ensures refused { self.new.refused ≡ self.old.refused }
+        ensures beside { self.new.beside ≡ self.old.beside }
     {
         match found {
             Found::Picture => {}
@@ -119,7 +151,10 @@ impl Counts {
         ensures not_read { self.new.not_read ≡ self.old.not_read }
         ensures others { self.new.others ≡ self.old.others }
         ensures done { self.new.done ≡ self.old.done }
+        ensures partial { self.new.partial ≡ self.old.partial }
+        ensures unchanged { self.new.unchanged ≡ self.old.unchanged }
         ensures refused { self.new.refused ≡ self.old.refused }
+        ensures beside { self.new.beside ≡ self.old.beside }
     {
         match why {
             NotRead::Damaged(_) | NotRead::Empty(_) => self.damaged = self
@@ -144,17 +179,6 @@ fn count_sidecar(counts: &mut [u64; 3], ending: Ending) {
         if known == ending {
             *count = count.saturating_add(1);
         }
-    }
-}
-
-/// The status of a run: the worst of a file, and not a success where a file was not read.
-pub fn status_of(worst: Status, not_read: u64) -> Status
-    ensures { result ≡ status_after worst not_read }
-{
-    if not_read > 0 {
-        worst.or_worse(Status::Incomplete)
-    } else {
-        worst
     }
 }
 

@@ -1,9 +1,7 @@
-//! What became of a file: what the last line of a run counts, and the status follows.
+//! What became of a file: what the last line of a run counts, and its status follows.
 
 ghost use Rattle.std.specs.Prelude.{◌≡◌};
-ghost use Rattle.exif_decisions.specs.Outcomes.{outcome_for, status_for};
-
-use exif_files::Status;
+ghost use Rattle.exif_decisions.specs.Outcomes.{outcome_for, outcome_with};
 
 /// What became of a file.
 #[derive(Clone, Copy, PartialEq, Eq)]
@@ -21,18 +19,6 @@ pub enum Outcome {
 }
 
 impl Outcome {
-    /// The status of the program after such a file: only a file with which all was done, or had
-    /// been done, is a success.
-    pub fn status(self) -> Status
-        ensures { result ≡ status_for self }
-    {
-        match self {
-            Outcome::Done | Outcome::Current => Status::Success,
-            Outcome::Partial | Outcome::Unchanged => Status::Incomplete,
-            Outcome::Refused => Status::Refused,
-        }
-    }
-
     /// The outcome of a file with which something was done, by whether something was left undone.
     pub fn of_done(is_complete: bool) -> Outcome
         ensures { result ≡ outcome_for is_complete }
@@ -42,5 +28,12 @@ impl Outcome {
         } else {
             Outcome::Partial
         }
+    }
+
+    /// The outcome of a file that was read, by how many faults were skipped.
+    pub fn of_faults(count: usize) -> Outcome
+        ensures { result ≡ outcome_with count }
+    {
+        Outcome::of_done(count == 0)
     }
 }

@@ -92,7 +92,7 @@ pub enum Existing {
     Special,
 }
 
-/// Where a new file is written, or why not.
+/// Where a new file is written.
 #[derive(Clone, Copy, PartialEq, Eq)]
 pub enum Destination {
     /// To standard output.
@@ -101,30 +101,40 @@ pub enum Destination {
     New,
     /// In place of the file that is there.
     Replace,
-    /// Not written: OUT is FILE itself.
-    RefuseSame,
-    /// Not written: OUT exists.
-    RefuseExisting,
-    /// Not written: OUT is no regular file.
-    RefuseOther,
 }
 
-/// Where a new file is written: OUT must be another file than FILE, and must not exist unless that
-/// is forced.
-pub fn destination_of(is_dash: bool, is_same: bool, existing: Existing, force: bool) -> Destination
+/// Why no new file is written.
+#[derive(Clone, Copy, PartialEq, Eq)]
+pub enum NoDestination {
+    /// OUT is FILE itself.
+    Same,
+    /// OUT exists.
+    Exists,
+    /// OUT is no regular file.
+    Special,
+}
+
+/// Where a new file is written, or why it is not: OUT must be another file than FILE, and must not
+/// exist unless that is forced.
+pub fn destination_of(
+    is_dash: bool,
+    is_same: bool,
+    existing: Existing,
+    force: bool,
+) -> Result<Destination, NoDestination>
     ensures { result ≡ destination_for is_dash is_same existing force }
 {
     if is_dash {
-        return Destination::StandardOutput;
+        return Ok(Destination::StandardOutput);
     }
     if is_same {
-        return Destination::RefuseSame;
+        return Err(NoDestination::Same);
     }
     match existing {
-        Existing::Absent => Destination::New,
-        _ if !force => Destination::RefuseExisting,
-        Existing::Regular => Destination::Replace,
-        Existing::Special => Destination::RefuseOther,
+        Existing::Absent => Ok(Destination::New),
+        _ if !force => Err(NoDestination::Exists),
+        Existing::Regular => Ok(Destination::Replace),
+        Existing::Special => Err(NoDestination::Special),
     }
 }
 

@@ -1,9 +1,10 @@
 //! All fields erased: the header stays, and no directory is left.
 
-ghost use Rattle.std.specs.Prelude.{◌≡◌, ◌≤◌, ◌-◌, ◌<◌, ◌^◌, All, length, replicate, IfOk, OnOk};
+ghost use Rattle.std.specs.Prelude.{◌≡◌, ◌≢◌, ◌≤◌, ◌-◌, ◌<◌, ◌^◌, All, length, replicate, Err, IfOk, OnOk};
 ghost use Rattle.exif_layout.specs.Encoding.{spelled};
 ghost use Rattle.exif_edit_base.specs.Causes.{Edits, Makes};
 ghost use Rattle.exif_edit_base.specs.Patches.{FitsIn, put_at};
+ghost use Rattle.exif_edit_base.specs.declared.error.Error.TheVariants.{OutOfMemory};
 ghost use Rattle.exif_edit.specs.Clearing.{IsCleared, clear_answer, clear_patches, clearing, empty_offset};
 
 use exif_base::{BigEndian, Endian, Items, LittleEndian, Order};
@@ -79,6 +80,7 @@ pub fn erase_all_patches(alloc: Global, bytes: &[u8]) -> Result<Vec<Patch>, Erro
 pub fn erase_all(bytes: &mut [u8]) -> Result<(), Error>
     ensures answer { Edits result bytes.old bytes.new (clear_answer bytes.old) }
     ensures cleared { OnOk result (IsCleared bytes.old bytes.new) }
+    ensures no_memory { result ≢ Err OutOfMemory }
 {
     match header(bytes) {
         Ok(order) => {

@@ -8,4 +8,5 @@ pub mod PowerLoss
 pub mod States
 pub mod Statuses
 pub mod Steps
+pub mod Texts
 pub mod Written

@@ -47,6 +47,10 @@ impl<T: Drop> From<AllocFailed<T>> for WriteError {
 }
 
 impl fmt::Display for WriteError {
+    ghost use Rattle.exif_files.specs.Texts.{error_text};
+
+    ghost output = { error_text };
+
     fn fmt<W: fmt::Write>(&self, f: &mut fmt::Formatter<W>) -> fmt::Result {
         match self {
             WriteError::Io(cause) => write!(f, "{cause}"),

@@ -1,7 +1,7 @@
 //! Many files that are changed in place, each once; a file that is refused does not stop the
 //! others.
 
-ghost use Rattle.std.specs.Prelude.{◌≡◌, ◌==◌, ℕ, List, map, not, true, false, if◌then◌else◌, length, IfOk, OnOk, OnErr, string_bytes};
+ghost use Rattle.std.specs.Prelude.{◌≡◌, ◌==◌, ◌<◌, ◌+◌, ◌^◌, ℕ, List, map, not, true, false, if◌then◌else◌, length, IfOk, OnOk, OnErr, string_bytes};
 ghost use Rattle.std.specs.BTreeSet.{contains_text};
 ghost use Rattle.std.specs.Str.{bytes_eq};
 ghost use Rattle.exif_files.specs.declared.outcome.Status.TheVariants.{Success, Incomplete, Refused};
@@ -18,16 +18,27 @@ use crate::system::FileSystem;
 use std::alloc::{AllocError, Global};
 use std::collections::BTreeSet;
 
-/// What hears of each file of a run.
+/// What hears of each name of a run, in their order.
 pub trait Reporter<L, N, R> {
-    /// The file of the name of this index was changed, and what is reported of it; or it was not.
-    fn report(&mut self, index: usize, outcome: Result<Report<L, N>, Failure<R>>);
+    /// How many names it has heard of.
+    ghost heard: { Self → ℕ };
+
+    /// The file of the next name was changed, and what is reported of it; or it was not.
+    fn report(&mut self, outcome: Result<Report<L, N>, Failure<R>>)
+        requires { heard self.old + 1 < 2 ^ 64 }
+        ensures { heard self.new ≡ heard self.old + 1 };
+
+    /// The file of the next name had its change before, under a name that is the same.
+    fn skip(&mut self)
+        requires { heard self.old + 1 < 2 ^ 64 }
+        ensures { heard self.new ≡ heard self.old + 1 };
 }
 
-/// Changes the files of these names in place, each once however often it is named, and reports
-/// each. Answers what became of each name's file, and nothing for a name that came before: a file
-/// that was changed is incomplete exactly where the edit leaves something undone in its bytes. A
-/// file that is refused does not stop the others.
+/// Changes the files of these names in place, each once however often it is named. The reporter
+/// hears of each name in turn, also of one that came before. Answers what became of each name's
+/// file, and nothing for a name that came before: a file that was changed is incomplete exactly
+/// where the edit leaves something undone in its bytes. A file that is refused does not stop the
+/// others.
 ///
 /// In every state of the run each file is the old one or its answer, whole: also where the process
 /// is killed, and where memory runs out, which alone ends the run.
@@ -39,6 +50,7 @@ pub fn change_all<F: FileSystem, E: Edit, P: Reporter<E::Left, E::Note, E::Refus
     keeping: Keeping,
     reporter: &mut P,
 ) -> Result<Vec<Option<Status>>, AllocError>
+    requires { P.heard reporter.old ≡ 0 }
     ensures whole { Run (IsEachWhole (E.answer edit.now) keeping.backup keeping.times)
         (IsEachWhole (E.answer edit.now) keeping.backup keeping.times)
         (F.states files.old) (F.states files.new) }
@@ -49,10 +61,11 @@ pub fn change_all<F: FileSystem, E: Edit, P: Reporter<E::Left, E::Note, E::Refus
         (IsEachDone (E.answer edit.now) keeping.times (E.undone edit.now)
         (map string_bytes names.now) results.items)
         (F.states files.old) (F.states files.new)) }
+    ensures heard { OnOk result (P.heard reporter.new ≡ length names.now) }
 {
     let mut seen: BTreeSet<String> = BTreeSet::new(alloc);
     let mut results = Vec::new(alloc);
-    for (index, name) in names.iter().enumerate() {
+    for name in names {
         let name = name.as_str();
         let seen = &mut seen;
         change_next(
@@ -61,7 +74,6 @@ pub fn change_all<F: FileSystem, E: Edit, P: Reporter<E::Left, E::Note, E::Refus
             edit,
             name,
             keeping,
-            index,
             reporter,
             seen,
             &mut results,
@@ -77,11 +89,11 @@ fn change_next<F: FileSystem, E: Edit, P: Reporter<E::Left, E::Note, E::Refusal>
     edit: &E,
     name: &str,
     keeping: Keeping,
-    index: usize,
     reporter: &mut P,
     seen: &mut BTreeSet<String>,
     results: &mut Vec<Option<Status>>,
 ) -> Result<(), AllocError>
+    requires { P.heard reporter.old + 1 < 2 ^ 64 }
     ensures taken { OnOk result (Takes (E.answer edit.now) name.now
         (backup_if keeping.backup name.now) keeping.times (E.undone edit.now)
         (F.states files.old) (F.states files.new) (contains_text seen.old name.now) results.old.items
@@ -95,12 +107,14 @@ fn change_next<F: FileSystem, E: Edit, P: Reporter<E::Left, E::Note, E::Refusal>
         (IsWholeChange (E.answer edit.now) name.now
         (backup_if keeping.backup name.now) keeping.times false)
         (F.states files.old) (F.states files.new) }
+    ensures heard { OnOk result (P.heard reporter.new ≡ P.heard reporter.old + 1) }
 {
     if !insert(alloc, seen, name)? {
+        reporter.skip();
         results.push(None)?;
         return Ok(());
     }
-    let status = change_one(alloc, files, edit, name, keeping, index, reporter);
+    let status = change_one(alloc, files, edit, name, keeping, reporter);
     results.push(Some(status))?;
     Ok(())
 }
@@ -121,18 +135,19 @@ fn change_one<F: FileSystem, E: Edit, P: Reporter<E::Left, E::Note, E::Refusal>>
     edit: &E,
     name: &str,
     keeping: Keeping,
-    index: usize,
     reporter: &mut P,
 ) -> Status
-    ensures { Run (IsWholeChange (E.answer edit.now) name.now
+    requires { P.heard reporter.old + 1 < 2 ^ 64 }
+    ensures changed { Run (IsWholeChange (E.answer edit.now) name.now
         (backup_if keeping.backup name.now) keeping.times false)
         (IsOutcome (E.answer edit.now) name.now (backup_if keeping.backup name.now)
         keeping.times (E.undone edit.now) result)
         (F.states files.old) (F.states files.new) }
+    ensures heard { P.heard reporter.new ≡ P.heard reporter.old + 1 }
 {
     let changed = change(alloc, files, edit, name, keeping);
     let status = status_of(&changed);
-    reporter.report(index, changed);
+    reporter.report(changed);
     status
 }
 

@@ -13,9 +13,9 @@ use Rattle.exif_containers.specs.GoingBack.{BeginsAt}
 use Rattle.exif_containers.specs.declared.container.Format.{Format}
 use Rattle.exif_containers.specs.declared.container.Format.TheVariants as known
 use Rattle.exif_containers.proofs.ContainerSteps.{begins_there, head-first}
-use Rattle.exif_png.specs.Png.{begins_png}
-use Rattle.exif_raw.specs.Cr3.{begins_cr3}
-use Rattle.exif_raw.specs.Raf.{begins_raf}
+use Rattle.exif_formats.specs.Png.{begins_png}
+use Rattle.exif_formats.specs.Cr3.{begins_cr3}
+use Rattle.exif_formats.specs.Raf.{begins_raf}
 use Rattle.exif_formats.specs.Formats.{begins_jpeg_xl, begins_orf, begins_rw2, format_in, known_as, known_or, other_format_in}
 use Rattle.exif_formats.specs.Magic.{as_tiff, tiff_signature}
 use Rattle.exif_formats.specs.Pictures.{ReadsAsFormat, ReadsBy, as_read, is_other_tiff, origin_for}

@@ -10,10 +10,10 @@ use Rattle.exif_reader.specs.Files.{ReadsByNeed, ReadsContainer}
 use Rattle.exif_reader.specs.Readings.{ReadsAs}
 use Rattle.exif_reader.proofs.ReaderFronts.{whole_by_need}
 use Rattle.exif_reader.proofs.ReaderOwnData.{given_reads}
-use Rattle.exif_jxl.specs.Jxl.{jxl_answer}
-use Rattle.exif_png.specs.Png.{png_answer}
-use Rattle.exif_raw.specs.Cr3.{Cr3Parts, cr3_answer}
-use Rattle.exif_raw.specs.Raf.{raf_answer}
+use Rattle.exif_formats.specs.Jxl.{jxl_answer}
+use Rattle.exif_formats.specs.Png.{png_answer}
+use Rattle.exif_formats.specs.Cr3.{Cr3Parts, cr3_answer}
+use Rattle.exif_formats.specs.Raf.{raf_answer}
 use Rattle.exif_formats.specs.Formats.{format_in}
 use Rattle.exif_formats.specs.Pictures.{ReadsAsFormat, ReadsBy, ReadsDirectories, as_read, container_of, data_as, png_data}
 use Rattle.exif_formats.specs.declared.format.PictureFormat.{PictureFormat}

@@ -11,7 +11,7 @@ use Rattle.exif_tiff.specs.declared.fault.Fault.{Fault}
 use Rattle.exif_reader.specs.Results.{Says}
 use Rattle.exif_reader.specs.declared.stop.Stop.{Stop}
 use Rattle.exif_reader.specs.declared.tiff.Parsed.{Parsed}
-use Rattle.exif_raw.specs.Cr3.{Cr3Parts}
+use Rattle.exif_formats.specs.Cr3.{Cr3Parts}
 use Rattle.exif_formats.specs.Pictures.{answer_in, directories_answer, field_in, joined, joined_with}
 
 -- two of them with all their fields

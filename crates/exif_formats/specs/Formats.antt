@@ -4,10 +4,10 @@ use Rattle.std.specs.Str.{bytes_eq}
 use Rattle.exif_containers.specs.Container as container
 use Rattle.exif_containers.specs.declared.container.Format.{Format}
 use Rattle.exif_containers.specs.declared.container.Format.TheVariants as known
-use Rattle.exif_jxl.specs.Jxl.{begins_codestream, begins_jxl}
-use Rattle.exif_png.specs.Png.{begins_png}
-use Rattle.exif_raw.specs.Cr3.{begins_cr3}
-use Rattle.exif_raw.specs.Raf.{begins_raf}
+use Rattle.exif_formats.specs.Jxl.{begins_codestream, begins_jxl}
+use Rattle.exif_formats.specs.Png.{begins_png}
+use Rattle.exif_formats.specs.Cr3.{begins_cr3}
+use Rattle.exif_formats.specs.Raf.{begins_raf}
 use Rattle.exif_formats.specs.declared.format.PictureFormat.{PictureFormat}
 use Rattle.exif_formats.specs.declared.format.PictureFormat.TheVariants.{Tiff, Jpeg, Heif, WebP, Png, JpegXl, Raf, Orf, Rw2, Cr3}
 

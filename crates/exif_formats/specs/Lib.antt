@@ -4,3 +4,17 @@ pub mod Formats
 pub mod Laws
 pub mod Magic
 pub mod Pictures
+pub mod Png
+pub mod PngGrammar
+pub mod PngSteps
+pub mod PngExamples
+pub mod Jxl
+pub mod JxlSteps
+pub mod JxlGrammar
+pub mod JxlExamples
+pub mod Cr3
+pub mod Cr3Grammar
+pub mod Cr3Steps
+pub mod RawExamples
+pub mod Raf
+pub mod RafGrammar

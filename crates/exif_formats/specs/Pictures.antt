@@ -12,10 +12,10 @@ use Rattle.exif_containers.specs.declared.container.Format.{Format}
 use Rattle.exif_containers.specs.declared.container.Format.TheVariants as known
 use Rattle.exif_reader.specs.Files.{ReadsByNeed}
 use Rattle.exif_reader.specs.Readings.{HoldsData, ReadsHeld}
-use Rattle.exif_jxl.specs.Jxl.{jxl_answer}
-use Rattle.exif_png.specs.Png.{png_answer}
-use Rattle.exif_raw.specs.Cr3.{Cr3Parts, cr3_answer}
-use Rattle.exif_raw.specs.Raf.{raf_answer}
+use Rattle.exif_formats.specs.Jxl.{jxl_answer}
+use Rattle.exif_formats.specs.Png.{png_answer}
+use Rattle.exif_formats.specs.Cr3.{Cr3Parts, cr3_answer}
+use Rattle.exif_formats.specs.Raf.{raf_answer}
 use Rattle.exif_formats.specs.Formats.{format_in}
 use Rattle.exif_formats.specs.Magic.{as_tiff}
 use Rattle.exif_formats.specs.declared.format.PictureFormat.{PictureFormat}

@@ -10,13 +10,13 @@ ghost use Rattle.exif_tiff.specs.Answers.{raw_answer, shown};
 ghost use Rattle.exif_tiff.specs.Trace.{header};
 ghost use Rattle.exif_reader.specs.Readings.{HoldsData, ReadsHeld};
 ghost use Rattle.exif_reader.specs.Results.{Says, SaysOrder};
-ghost use Rattle.exif_raw.specs.Cr3.{cr3_answer};
-ghost use Rattle.exif_raw.specs.Cr3Steps.{parts_view};
+ghost use Rattle.exif_formats.specs.Cr3.{cr3_answer};
+ghost use Rattle.exif_formats.specs.Cr3Steps.{parts_view};
 ghost use Rattle.exif_formats.specs.Pictures.{ReadsDirectories, answer_in, directories_answer, field_in, joined, joined_with};
 
 use crate::options::Options;
+use crate::raw::cr3::{Parts, find};
 use exif_base::Source;
-use exif_raw::cr3::{Parts, find};
 use exif_reader::errors_of;
 use exif_reader::stop::Stop;
 use exif_reader::tiff::{Parsed, parse};

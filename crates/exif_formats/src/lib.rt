@@ -7,10 +7,13 @@
 
 mod cr3;
 mod format;
+pub mod jxl;
 pub mod laws;
 mod magic;
 mod options;
 mod picture;
+pub mod png;
+pub mod raw;
 
 pub use format::{PictureFormat, format_of};
 pub use options::Options;

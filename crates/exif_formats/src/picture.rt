@@ -12,13 +12,13 @@ ghost use Rattle.exif_formats.specs.Failing.{has_io};
 
 use crate::cr3::read_cr3;
 use crate::format::{PictureFormat, format_of};
+use crate::jxl::get_exif_attr_from_jxl;
 use crate::magic::make_tiff;
 use crate::options::Options;
+use crate::png::get_exif_attr_from_png;
+use crate::raw::raf;
 use exif_base::{Blocks, Counted, Source};
 use exif_containers::container::{BLOCK, Format, SNIFF_LEN, read_signature};
-use exif_jxl::get_exif_attr_from_jxl;
-use exif_png::get_exif_attr_from_png;
-use exif_raw::raf;
 use exif_reader::Reader;
 use exif_types::{Error, Exif};
 use std::alloc::Global;

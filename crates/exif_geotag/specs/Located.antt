@@ -4,10 +4,10 @@ use Rattle.std.specs.Prelude.{ℕ, List, [], Option, None, Some, option_and_then
 use Rattle.exif_table.specs.declared.context.Context.TheVariants.{Exif}
 use Rattle.exif_types.specs.declared.field.Field.{Field}
 use Rattle.exif_summary.specs.Finding.{text_found}
-use Rattle.exif_track.specs.Between.{fix_at}
-use Rattle.exif_track.specs.Times.{exif_time_of}
-use Rattle.exif_track.specs.declared.point.Fix.{Fix}
-use Rattle.exif_track.specs.declared.point.Point.{Point}
+use Rattle.exif_geotag.specs.Between.{fix_at}
+use Rattle.exif_geotag.specs.Times.{exif_time_of}
+use Rattle.exif_geotag.specs.declared.point.Fix.{Fix}
+use Rattle.exif_geotag.specs.declared.point.Point.{Point}
 
 -- a text, or another where there is none
 abbrev pub text_or : Option (List ℕ) → List ℕ → List ℕ

@@ -2,8 +2,8 @@
 -- seconds of UTC).
 use Rattle.std.specs.Prelude.{ℕ, ◌==◌, if◌then◌else◌, List, [], ◌++◌, codes}
 use Rattle.std.specs.Fmt.{decimal}
-use Rattle.exif_track.specs.FixTexts.{zero_filled}
-use Rattle.exif_track.specs.declared.moment.Clock.{Clock}
+use Rattle.exif_geotag.specs.FixTexts.{zero_filled}
+use Rattle.exif_geotag.specs.declared.moment.Clock.{Clock}
 
 -- a fraction of a second behind a point, if there is one
 abbrev pub fraction_text : ℕ → List ℕ

@@ -1,49 +1,39 @@
-//! Where a picture was taken, by the track of a GPS receiver.
+//! Where a picture was taken, by the track of a GPS receiver: the points of a GPX file, where it was
+//! at a time, and the edit that says so.
 #![tactic(auto)]
 
+mod between;
+mod calendar;
+mod element;
 mod erasing;
+mod error;
+mod fix;
+mod format;
+mod gap;
+mod gpx;
+pub mod laws;
+mod moment;
+mod number;
+mod pictures;
+mod point;
 mod relocating;
 mod replaced;
+mod search;
 mod stamps;
+mod state;
+mod step;
+mod text;
+mod time;
+mod track;
 
-ghost use Rattle.std.specs.Prelude.{◌≡◌, option_map};
-ghost use Rattle.exif_geotag.specs.Located.{fix_in, text_or, time_in};
-
-use exif_summary::find_text;
-use exif_track::{Fix, Track, exif_time_of};
-use exif_types::{Exif, Tag};
+pub use error::TrackError;
+pub use format::{OtherFormat, other_format};
+pub use gap::{DEFAULT_GAP, gap_in};
+pub use moment::{Clock, Day, Moment, moment_at};
+pub use pictures::{fix_of_picture, time_of_picture};
+pub use point::{Fix, Point};
 pub use relocating::{Relocated, Relocation, Unfinished, relocate};
 pub use replaced::stale_tags;
 pub use stamps::TimeStamp;
-
-// A text, or another where there is none.
-fn text_or<'a>(text: Option<&'a [u8]>, other: &'a [u8]) -> &'a [u8]
-    ensures { result.now ≡ text_or (option_map (λ t. t.now) text.entry) other.entry.now }
-{
-    match text {
-        Some(text) => text,
-        None => other,
-    }
-}
-
-/// When a picture was taken, in milliseconds of UTC as [`exif_track::time_of`] has them: by
-/// DateTimeOriginal, SubSecTimeOriginal and OffsetTimeOriginal, with `zone` as `+hh:mm` where the
-/// offset is not known, and UTC where `zone` is empty. `None` where the date or the offset can't be
-/// read.
-pub fn time_of_picture(exif: &Exif, zone: &[u8]) -> Option<u64>
-    ensures { result ≡ time_in exif.now.fields zone.now }
-{
-    let date = find_text(exif, Tag::DateTimeOriginal)?;
-    let subsec = text_or(find_text(exif, Tag::SubSecTimeOriginal), b"");
-    let offset = text_or(find_text(exif, Tag::OffsetTimeOriginal), zone);
-    exif_time_of(date, subsec, offset)
-}
-
-/// The location of a track at the time of a picture; `None` where the picture has no date, or the
-/// track has no location at its time: its points around that may be `max_gap` milliseconds apart.
-pub fn fix_of_picture(exif: &Exif, zone: &[u8], track: &Track, max_gap: u64) -> Option<Fix>
-    ensures { result ≡ fix_in exif.now.fields zone.now max_gap track.now.points }
-{
-    let time = time_of_picture(exif, zone)?;
-    track.at(time, max_gap)
-}
+pub use time::{exif_time_of, time_of};
+pub use track::Track;

@@ -57,6 +57,10 @@ pub enum Unfinished {
 }
 
 impl fmt::Display for Unfinished {
+    ghost use Rattle.exif_geotag.specs.UnfinishedTexts.{unfinished_text};
+
+    ghost output = { unfinished_text };
+
     fn fmt<W: fmt::Write>(&self, f: &mut fmt::Formatter<W>) -> fmt::Result {
         match self {
             Unfinished::Change(left) => write!(f, "{left}"),

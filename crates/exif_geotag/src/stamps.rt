@@ -3,7 +3,7 @@
 ghost use Rattle.std.specs.Prelude.{◌≡◌, Some};
 ghost use Rattle.exif_geotag.specs.Stamps.{clock_words};
 
-use exif_track::Clock;
+use crate::Clock;
 use std::fmt;
 
 /// The value of GPSTimeStamp, as an assignment has it: `2 30 1` or `2 30 1.250`.

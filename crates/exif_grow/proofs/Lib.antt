@@ -9,3 +9,11 @@ pub mod GrowthSteps
 pub mod InsertSound
 pub mod InsertSteps
 pub mod OldKept
+pub mod AlikeSound
+pub mod AlikeSteps
+pub mod FieldSound
+pub mod FieldSteps
+pub mod SetLists
+pub mod ClosedBoxes
+pub mod ItemSound
+pub mod ItemSteps

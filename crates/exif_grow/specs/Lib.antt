@@ -5,3 +5,12 @@ pub mod Growing
 pub mod Inserting
 pub mod Promises
 pub mod Setting
+pub mod Alike
+pub mod Fields
+pub mod FieldPromises
+pub mod Entries
+pub mod Examples
+pub mod ItemFields
+pub mod Items
+pub mod ItemPromises
+pub mod Refusals

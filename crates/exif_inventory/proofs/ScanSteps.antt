@@ -1,6 +1,16 @@
--- One byte more of a scan for the next JPEG stream.
-use Rattle.std.proofs.Common.{◌≡◌, ◌<◌, ◌≤◌, ◌+◌, ℕ, zero, suc, false, cond, List, [], ◌∷◌, length, drop, ap, ◌∙◌, arith}
-use Rattle.exif_inventory.specs.JpegPieces.{gap_len, is_stream}
+-- Scans for the next marker, and for the next JPEG stream.
+use Rattle.std.proofs.Common.{◌≡◌, ◌≢◌, ◌<◌, ◌≤◌, ◌+◌, ℕ, zero, suc, false, cond, List, [], ◌∷◌, length, drop, slice_index, ap, sym, ◌∙◌, arith}
+use Rattle.std.proofs.lemmas.Bool.{eq-eqb, ne_eqb}
+use Rattle.exif_inventory.specs.JpegPieces.{free_len, gap_len, is_stream}
+
+-- the index of the first ff
+pub free_is : (bytes : List ℕ) (n : ℕ) → n ≤ length bytes → ((k : ℕ) → k < n → slice_index bytes k ≢ 255)
+    → (n < length bytes → slice_index bytes n ≡ 255) → n ≡ free_len bytes
+free_is [] n h before at = omega arith
+free_is (b ∷ bytes) zero h before at = sym (ap (λ t. cond t 0 (suc (free_len bytes))) (eq-eqb b 255 (at (omega arith))))
+free_is (b ∷ bytes) (suc n) h before at =
+    ap suc (free_is bytes n (omega arith) (λ k l. before (suc k) (omega arith)) (λ l. at (omega arith)))
+    ∙ sym (ap (λ t. cond t 0 (suc (free_len bytes))) (ne_eqb b 255 (before 0 (omega arith))))
 
 -- a byte where no stream begins
 pub gap_step : (n : ℕ) (bytes : List ℕ) → n < length bytes → is_stream (drop n bytes) ≡ false

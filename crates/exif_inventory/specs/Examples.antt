@@ -90,6 +90,30 @@ parts_of_no_second : inventory no_second_marker
 unfolding walked stream_piece between_piece
 parts_of_no_second = refl
 
+-- the first and the last marker of extensions (f0, f8), the last one of an application (ef), and the
+-- first and the last of those that are reserved (02, bf, f9, fd)
+abbrev rare_markers : List ℕ
+rare_markers =
+    0xff ∷ 0xd8
+    ∷ 0xff ∷ 0xf0 ∷ 0 ∷ 3 ∷ 1 ∷ 0xff ∷ 0xf8 ∷ 0 ∷ 3 ∷ 2 ∷ 0xff ∷ 0xef ∷ 0 ∷ 3 ∷ 3
+    ∷ 0xff ∷ 2 ∷ 0 ∷ 3 ∷ 4 ∷ 0xff ∷ 0xbf ∷ 0 ∷ 3 ∷ 5
+    ∷ 0xff ∷ 0xf9 ∷ 0 ∷ 3 ∷ 6 ∷ 0xff ∷ 0xfd ∷ 0 ∷ 3 ∷ 7 ∷ []
+
+parts_of_rare : inventory rare_markers
+    ≡ Some (part kind.Picture 0 0 12 0 12 ∷ part kind.Unknown 0 12 5 12 5
+    ∷ part kind.Unknown 0 17 5 17 5 ∷ part kind.Unknown 0 22 5 22 5
+    ∷ part kind.Unknown 0 27 5 27 5 ∷ part kind.Unknown 0 32 5 32 5 ∷ [])
+unfolding walked stream_piece between_piece
+parts_of_rare = refl
+
+-- files of two bytes and of one
+of_two_bytes : inventory (0xff ∷ 0xd8 ∷ []) ≡ Some (part kind.Picture 0 0 2 0 2 ∷ [])
+unfolding walked stream_piece between_piece
+of_two_bytes = refl
+
+of_one_byte : inventory (0xff ∷ []) ≡ None
+of_one_byte = refl
+
 -- a WebP file with Exif data of three bytes, which are padded, and an XMP packet
 abbrev webp : List ℕ
 webp =

@@ -56,7 +56,8 @@ app_kind code content =
     if code == 238 then named (codes "Adobe") kind.Adobe content else kind.Unknown
 
 -- what a segment is: c0 to df make up the picture, and so do f0 to f6 (extensions, T.84), f7 and f8
--- (JPEG-LS, T.87); e0 to ef are the applications', fe is a comment
+-- (JPEG-LS, T.87); e0 to ef are the applications', fe is a comment; 02 to bf and f9 to fd are
+-- reserved, and what they hold is not known
 abbrev pub segment_kind : ℕ → List ℕ → Kind
 segment_kind code content =
     if (nat_le 192 code && nat_le code 223) || (nat_le 240 code && nat_le code 248)

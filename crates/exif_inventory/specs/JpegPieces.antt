@@ -9,9 +9,9 @@ use Rattle.exif_inventory.specs.declared.piece.State.{State}
 use Rattle.exif_inventory.specs.declared.piece.State.TheVariants.{Stream, Resources, Between}
 
 -- whether a file begins with the first marker of a JPEG stream
-abbrev pub begins_file : List ℕ → Bool
-begins_file (a ∷ b ∷ bytes) = (a == 255) && (b == 216)
-begins_file bytes = false
+abbrev pub is_jpeg : List ℕ → Bool
+is_jpeg (a ∷ b ∷ bytes) = (a == 255) && (b == 216)
+is_jpeg bytes = false
 
 -- whether bytes within a file begin as a JPEG stream does: with its first marker, and another one
 abbrev pub is_stream : List ℕ → Bool

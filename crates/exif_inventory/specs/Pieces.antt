@@ -1,6 +1,6 @@
 -- The piece of a file that comes next.
 use Rattle.std.specs.Prelude.{ℕ, List, Option, Some, None, if◌then◌else◌}
-use Rattle.exif_inventory.specs.JpegPieces.{begins_file, between_piece, start_piece, stream_piece}
+use Rattle.exif_inventory.specs.JpegPieces.{between_piece, is_jpeg, start_piece, stream_piece}
 use Rattle.exif_inventory.specs.JxlPieces.{box_piece, is_jxl}
 use Rattle.exif_inventory.specs.PngPieces.{behind_png, is_png, png_piece, signature_piece}
 use Rattle.exif_inventory.specs.Resources.{resource_piece}
@@ -12,7 +12,7 @@ use Rattle.exif_inventory.specs.declared.piece.State.TheVariants.{Opening, Strea
 -- what a file begins with, if its format is known
 abbrev pub start_of : List ℕ → Option State
 start_of file =
-    if begins_file file then Some Opening else
+    if is_jpeg file then Some Opening else
     if is_webp file then Some Header else
     if is_png file then Some PngSignature else
     if is_jxl file then Some JxlBoxes else None

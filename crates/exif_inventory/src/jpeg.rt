@@ -1,11 +1,12 @@
 //! The pieces of a JPEG stream, and of what follows it (ITU-T T.81, B.1.1).
 
-ghost use Rattle.std.specs.Prelude.{◌≡◌, true, ◌<◌, ◌≤◌, ◌+◌, ◌-◌, ◌^◌, length, take, drop};
+ghost use Rattle.std.specs.Prelude.{◌≡◌, ◌≢◌, true, ℕ, ◌<◌, ◌≤◌, ◌+◌, ◌-◌, ◌^◌, length, take, drop, slice_index};
 ghost use Rattle.exif_inventory.specs.JpegKinds.{app0_kind, app1_kind, app2_kind, app_kind, begins, front_len, has_no_length, has_resources, id_len, named, segment_kind, unsegmented, xmp_kind};
-ghost use Rattle.exif_inventory.specs.JpegPieces.{begins_file, between_piece, fill_len, first_piece, free_len, gap_len, given_len, is_stream, marker_piece, rest_piece, segment_piece, sized_segment, start_piece, stream_piece, unit_piece};
+ghost use Rattle.exif_inventory.specs.JpegPieces.{between_piece, fill_len, first_piece, free_len, gap_len, given_len, is_jpeg, is_stream, marker_piece, rest_piece, segment_piece, sized_segment, start_piece, stream_piece, unit_piece};
 
 use crate::kind::Kind;
 use crate::piece::{Piece, State};
+use memchr::memchr;
 
 // The first byte of a marker.
 const MARK: u8 = 0xff;
@@ -15,8 +16,8 @@ const EOI: u8 = 0xd9;
 const SOS: u8 = 0xda;
 
 /// Whether a file begins with the first marker of a JPEG stream.
-pub fn begins_file(file: &[u8]) -> bool
-    ensures { result ≡ begins_file file.now }
+pub fn is_jpeg(file: &[u8]) -> bool
+    ensures { result ≡ is_jpeg file.now }
 {
     file.len() >= 2 && file[0] == MARK && file[1] == 0xd8
 }
@@ -28,20 +29,25 @@ fn is_stream(bytes: &[u8]) -> bool
     bytes.len() >= 3 && bytes[0] == MARK && bytes[1] == 0xd8 && bytes[2] == MARK
 }
 
+// The index of the first ff, or the length where there is none.
+fn first_mark(bytes: &[u8]) -> usize
+    ensures within { result ≤ length bytes.now }
+    ensures before { (k : ℕ) → k < result → slice_index bytes.now k ≢ 255 }
+    ensures at { result < length bytes.now → slice_index bytes.now result ≡ 255 }
+{
+    memchr(MARK, bytes).unwrap_or(bytes.len())
+}
+
 // How many bytes come before the first ff.
 fn free_len(bytes: &[u8]) -> usize
     ensures value { result ≡ free_len bytes.now }
     ensures within { result ≤ length bytes.now }
 {
-    let mut n = 0;
-    while n < bytes.len() && bytes[n] != MARK {
-        n += 1;
-    }
-    n
+    first_mark(bytes)
 }
 
-// How many ffs are at the front.
-fn fill_len(bytes: &[u8]) -> usize
+/// How many ffs are at the front.
+pub fn fill_len(bytes: &[u8]) -> usize
     ensures value { result ≡ fill_len bytes.now }
     ensures within { result ≤ length bytes.now }
 {

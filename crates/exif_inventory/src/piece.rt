@@ -3,7 +3,7 @@
 ghost use Rattle.std.specs.Prelude.{◌≡◌, ◌<◌, ◌≤◌, ◌+◌, length};
 ghost use Rattle.exif_inventory.specs.Pieces.{piece_at, start_of};
 
-use crate::jpeg::{begins_file, between_piece, start_piece, stream_piece};
+use crate::jpeg::{between_piece, is_jpeg, start_piece, stream_piece};
 use crate::jxl::{box_piece, is_jxl};
 use crate::kind::Kind;
 use crate::png::{behind_png, is_png, png_piece, signature_piece};
@@ -41,9 +41,11 @@ pub enum State {
 /// A piece of a file.
 #[derive(Clone, Copy)]
 pub struct Piece {
+    /// What it holds.
     pub kind: Kind,
     /// The picture that it belongs to.
     pub picture: u64,
+    /// How many bytes it has.
     pub len: usize,
     /// How many of its bytes come before its data.
     pub front: usize,
@@ -57,7 +59,7 @@ pub struct Piece {
 pub fn start_of(file: &[u8]) -> Option<State>
     ensures { result ≡ start_of file.now }
 {
-    if begins_file(file) {
+    if is_jpeg(file) {
         Some(State::Opening)
     } else if is_webp(file) {
         Some(State::Header)

@@ -4,8 +4,8 @@ use Rattle.std.specs.Prelude.{replicate, slice_index}
 use Rattle.std.proofs.lemmas.List.Folds.{list_all-append}
 use Rattle.base64.specs.Rfc4648.{encode_symbols, padding_len}
 use Rattle.base64.specs.Engines.{standard}
-use Rattle.exif_page.specs.Cards.{base64}
 use Rattle.exif_page.specs.Escaping.{is_plain, is_plain_text}
+use Rattle.exif_page.specs.Thumbnails.{base64}
 
 both : (a b : Bool) → a ≡ true → b ≡ true → (a && b) ≡ true
 both a b h k = rw (h, k) refl

@@ -1,11 +1,11 @@
 -- The card of a picture.
 use Rattle.std.specs.Prelude.{ℕ, List, [], ◌++◌, Option, None, Some, codes}
 use denote.Ref.{Bor}
-use Rattle.base64.specs.Engines.{standard}
-use Rattle.base64.specs.GeneralPurpose.{encode_of}
 use Rattle.exif_page.specs.Escaping.{between, between_if}
 use Rattle.exif_page.specs.Paths.{file_name}
 use Rattle.exif_page.specs.declared.entries.Entry.{Entry}
+use Rattle.exif_page.specs.declared.entries.Thumbnail.{Thumbnail}
+use Rattle.exif_page.specs.declared.entries.Thumbnail.TheVariants.{Jpeg, Line}
 
 -- an attribute, where there is a text for it
 unfoldable pub attribute : List ℕ → Option (Bor (List ℕ)) → List ℕ
@@ -24,29 +24,23 @@ attributes entry =
     ++ (attribute (codes "latitude") entry.latitude
     ++ attribute (codes "longitude") entry.longitude))))
 
--- bytes in base64 (RFC 4648, section 4), padded
-unfoldable pub base64 : List ℕ → List ℕ
-base64 bytes = encode_of standard bytes
+-- the place of a thumbnail, which the script fills, or the line that says why there is none
+unfoldable pub place : Thumbnail → List ℕ
+place (Jpeg bytes) = codes "<span class=\"thumb\"></span>\n"
+place (Line line) = between (codes "<p class=\"none\">") line.now (codes "</p>\n")
 
--- an image of JPEG data, as a data URL (RFC 2397), with a name in its place
-unfoldable pub image : List ℕ → List ℕ → List ℕ
-image name bytes =
-    codes "<img loading=\"lazy\" src=\"data:image/jpeg;base64,"
-    ++ (base64 bytes ++ between (codes "\" alt=\"") name (codes "\">\n"))
+-- the thumbnail and the name
+unfoldable pub picture : List ℕ → Thumbnail → List ℕ
+picture name thumbnail = place thumbnail ++ between (codes "<h3>") name (codes "</h3>\n")
 
--- the thumbnail, or a line that says that there is none
-unfoldable pub picture : List ℕ → Option (Bor (List ℕ)) → List ℕ
-picture name None = codes "<p class=\"none\">No thumbnail</p>\n"
-picture name (Some bytes) = image name bytes.now
-
--- the thumbnail within a link
-unfoldable pub within : List ℕ → List ℕ → Option (Bor (List ℕ)) → List ℕ
+-- both within a link
+unfoldable pub within : List ℕ → List ℕ → Thumbnail → List ℕ
 within link name thumbnail =
     between (codes "<a class=\"open\" href=\"") link (codes "\">\n")
     ++ (picture name thumbnail ++ codes "</a>\n")
 
 -- the same, where there is one
-unfoldable pub opened : Option (Bor (List ℕ)) → List ℕ → Option (Bor (List ℕ)) → List ℕ
+unfoldable pub opened : Option (Bor (List ℕ)) → List ℕ → Thumbnail → List ℕ
 opened None name thumbnail = picture name thumbnail
 opened (Some link) name thumbnail = within link.now name thumbnail
 
@@ -82,5 +76,4 @@ unfoldable pub card : Entry → List ℕ
 card entry =
     codes "<li" ++ (attributes entry
     ++ (codes ">\n" ++ (opened entry.link (name_of entry) entry.thumbnail
-    ++ (between (codes "<h3>") (name_of entry) (codes "</h3>\n")
-    ++ (facts entry ++ codes "</li>\n")))))
+    ++ (facts entry ++ codes "</li>\n"))))

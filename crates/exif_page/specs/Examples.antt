@@ -4,7 +4,7 @@ use denote.Ref.{Bor}
 use Rattle.base64.specs.Rfc4648.{encode_symbols}
 use Rattle.std.specs.Fmt.{digits}
 use Rattle.exif_page.specs.Cameras.{camera_of}
-use Rattle.exif_page.specs.Cards.{attribute, attributes, base64, card, facts, image, link, location, opened, picture, within}
+use Rattle.exif_page.specs.Cards.{attribute, attributes, card, facts, link, location, opened, picture, place, within}
 use Rattle.exif_page.specs.Dates.{day_of, time_of}
 use Rattle.exif_page.specs.Escaping.{between, between_if, escaped}
 use Rattle.exif_page.specs.Exposures.{exposure_of, time_part}
@@ -12,7 +12,9 @@ use Rattle.exif_page.specs.Links.{link_of}
 use Rattle.exif_page.specs.Numbers.{billionths_of, short_text}
 use Rattle.exif_page.specs.Paths.{file_name}
 use Rattle.exif_page.specs.Sections.{closing, opening, section_of, start}
+use Rattle.exif_page.specs.Thumbnails.{base64, jpeg_html, thumbnail_html}
 use Rattle.exif_page.specs.declared.entries.Entry.{Entry}
+use Rattle.exif_page.specs.declared.entries.Thumbnail.TheVariants.{Jpeg, Line}
 use Rattle.exif_page.specs.declared.sections.Section.TheVariants.{Closed, Day, Undated}
 
 escaped_all : escaped (codes "<a b=\"c\">'d' & e</a>")
@@ -61,11 +63,6 @@ no_location : location None None ≡ []
 unfolding location
 no_location = refl
 
-a_thumbnail : image (codes "a&b.jpg") (codes "Man")
-    ≡ codes "<img loading=\"lazy\" src=\"data:image/jpeg;base64,TWFu\" alt=\"a&amp;b.jpg\">\n"
-unfolding image base64 encode_symbols between escaped
-a_thumbnail = refl
-
 no_attribute : attribute (codes "day") None ≡ []
 unfolding attribute
 no_attribute = refl
@@ -73,6 +70,21 @@ no_attribute = refl
 -- a borrowed text
 abbrev text : List ℕ → Bor (List ℕ)
 text bytes = record { ref_ptr = (0, 0); now = bytes }
+
+-- a thumbnail has its place in the card, and its data behind all cards; a line has no data
+a_place : picture (codes "a&b.jpg") (Jpeg (text (codes "Man")))
+    ≡ codes "<span class=\"thumb\"></span>\n<h3>a&amp;b.jpg</h3>\n"
+unfolding picture place between escaped
+a_place = refl
+
+its_data : thumbnail_html (Jpeg (text (codes "Man")))
+    ≡ codes "<script type=\"text/plain\">TWFu</script>\n"
+unfolding thumbnail_html jpeg_html base64 encode_symbols
+its_data = refl
+
+no_data : thumbnail_html (Line (text (codes "No thumbnail"))) ≡ []
+unfolding thumbnail_html
+no_data = refl
 
 abbrev beach : Entry
 beach = record {
@@ -85,16 +97,17 @@ beach = record {
   exposure = None;
   latitude = Some (text (codes "1.5"));
   longitude = None;
-  thumbnail = None;
+  thumbnail = Line (text (codes "No thumbnail"));
 }
 
 -- no link without a longitude
 card_of_beach : card beach
     ≡ codes "<li data-path=\"a/b.jpg\" data-camera=\"R&amp;D\" data-orientation=\"6\""
     ++ (codes " data-day=\"2024-05-01\" data-latitude=\"1.5\">\n"
-    ++ (codes "<a class=\"open\" href=\"../a/b.jpg\">\n<p class=\"none\">No thumbnail</p>\n</a>\n"
-    ++ codes "<h3>b.jpg</h3>\n<p class=\"path\">a/b.jpg</p>\n<p>R&amp;D</p>\n</li>\n"))
-unfolding card attributes attribute opened within picture facts location between between_if escaped
+    ++ (codes "<a class=\"open\" href=\"../a/b.jpg\">\n<p class=\"none\">No thumbnail</p>\n"
+    ++ codes "<h3>b.jpg</h3>\n</a>\n<p class=\"path\">a/b.jpg</p>\n<p>R&amp;D</p>\n</li>\n"))
+unfolding card attributes attribute opened within picture place facts location between between_if
+    escaped
 card_of_beach = refl
 
 first_day : opening Closed (section_of beach)

@@ -11,3 +11,4 @@ pub mod Numbers
 pub mod Pages
 pub mod Paths
 pub mod Sections
+pub mod Thumbnails

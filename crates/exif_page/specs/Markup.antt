@@ -36,12 +36,17 @@ filters =
     ++ (codes "<label>To <input type=\"date\" name=\"to\"></label>\n"
     ++ (codes "<label><input type=\"checkbox\" name=\"located\"> With location</label>\n"
     ++ (codes "<label><input type=\"checkbox\" name=\"undated\"> Without date</label>\n"
-    ++ codes "<button type=\"reset\">Reset</button>\n<output></output>\n</form>\n</header>\n<main>\n"
-    ))))))
+    ++ (codes "<button type=\"reset\">Reset</button>\n<output></output>\n</form>\n"
+    ++ codes "<noscript>Thumbnails need the script of this page.</noscript>\n</header>\n<main>\n"
+    )))))))
 
--- the script, and the end of the page
+-- the script, and the beginning of what holds the data of the thumbnails, which is never shown
+unfoldable pub script : List ℕ
+script = codes "</main>\n<script>\n" ++ (SCRIPT.now ++ codes "</script>\n<div hidden>\n")
+
+-- the end of the page
 unfoldable pub ending : List ℕ
-ending = codes "</main>\n<script>\n" ++ (SCRIPT.now ++ codes "</script>\n</body>\n</html>\n")
+ending = codes "</div>\n</body>\n</html>\n"
 
 -- a word is in a text
 abbrev pub has : List ℕ → List ℕ → Bool

@@ -1,13 +1,12 @@
 //! The card of a picture.
 
 ghost use Rattle.std.specs.Prelude.{◌≡◌, ◌++◌, OnOk};
-ghost use Rattle.exif_page.specs.Cards.{attribute, attributes, base64, card, facts, image, link, location, opened, picture, within};
+ghost use Rattle.exif_page.specs.Cards.{attribute, attributes, card, facts, link, location, opened, picture, place, within};
 
-use crate::entries::Entry;
+use crate::entries::{Entry, Thumbnail};
 use crate::escaping::{push_between, push_between_if, push_markup};
 use crate::paths::file_name;
-use base64::engine::general_purpose::STANDARD;
-use std::alloc::{AllocError, Global};
+use std::alloc::AllocError;
 
 // Appends an attribute of a card, where there is a text for it.
 #[tactic(auto, unfolding(crate::specs::Cards::attribute))]
@@ -36,73 +35,58 @@ fn push_attributes(out: &mut Vec<u8>, entry: &Entry) -> Result<(), AllocError>
     push_attribute(out, b"longitude", entry.longitude)
 }
 
-// Appends bytes in base64 (RFC 4648, section 4).
-#[tactic(auto, unfolding(crate::specs::Cards::base64))]
-fn push_base64(alloc: Global, out: &mut Vec<u8>, bytes: &[u8]) -> Result<(), AllocError>
-    ensures { OnOk result (out.new.items ≡ out.old.items ++ base64 bytes.now) }
-{
-    let text = STANDARD.encode(alloc, bytes)?;
-    out.extend_from_slice(text.as_bytes())
-}
-
-// Appends an image of JPEG data, as a data URL (RFC 2397).
-#[tactic(auto, unfolding(crate::specs::Cards::image))]
-fn push_image(alloc: Global, out: &mut Vec<u8>, name: &[u8], bytes: &[u8]) -> Result<(), AllocError>
-    ensures { OnOk result (out.new.items ≡ out.old.items ++ image name.now bytes.now) }
-{
-    out.extend_from_slice(b"<img loading=\"lazy\" src=\"data:image/jpeg;base64,")?;
-    push_base64(alloc, out, bytes)?;
-    push_between(out, b"\" alt=\"", name, b"\">\n")
-}
-
-// Appends the thumbnail, or a line that says that there is none.
-#[tactic(auto, unfolding(crate::specs::Cards::picture))]
-fn push_picture(
-    alloc: Global,
-    out: &mut Vec<u8>,
-    name: &[u8],
-    thumbnail: Option<&[u8]>,
-) -> Result<(), AllocError>
-    ensures { OnOk result (out.new.items ≡ out.old.items ++ picture name.now thumbnail.entry) }
+// Appends the place of the thumbnail, which the script fills, or the line that is there.
+#[tactic(auto, unfolding(crate::specs::Cards::place))]
+fn push_place(out: &mut Vec<u8>, thumbnail: Thumbnail) -> Result<(), AllocError>
+    ensures { OnOk result (out.new.items ≡ out.old.items ++ place thumbnail.entry) }
 {
     match thumbnail {
-        Some(bytes) => push_image(alloc, out, name, bytes),
-        None => out.extend_from_slice(b"<p class=\"none\">No thumbnail</p>\n"),
+        Thumbnail::Jpeg(_) => push_markup(out, b"<span class=\"thumb\"></span>\n"),
+        Thumbnail::Line(line) => {
+            push_between(out, b"<p class=\"none\">", line.as_bytes(), b"</p>\n")
+        }
     }
 }
 
-// Appends the thumbnail as a link.
+// Appends the thumbnail and the name.
+#[tactic(auto, unfolding(crate::specs::Cards::picture))]
+fn push_picture(out: &mut Vec<u8>, name: &[u8], thumbnail: Thumbnail) -> Result<(), AllocError>
+    ensures { OnOk result (out.new.items ≡ out.old.items ++ picture name.now thumbnail.entry) }
+{
+    push_place(out, thumbnail)?;
+    push_between(out, b"<h3>", name, b"</h3>\n")
+}
+
+// Appends both as a link.
 #[tactic(auto, unfolding(crate::specs::Cards::within))]
 fn push_within(
-    alloc: Global,
     out: &mut Vec<u8>,
     link: &[u8],
     name: &[u8],
-    thumbnail: Option<&[u8]>,
+    thumbnail: Thumbnail,
 ) -> Result<(), AllocError>
     ensures { OnOk result (out.new.items
         ≡ out.old.items ++ within link.now name.now thumbnail.entry) }
 {
     push_between(out, b"<a class=\"open\" href=\"", link, b"\">\n")?;
-    push_picture(alloc, out, name, thumbnail)?;
+    push_picture(out, name, thumbnail)?;
     push_markup(out, b"</a>\n")
 }
 
-// Appends the thumbnail, as a link to the file where there is one.
+// Appends both, as a link to the file where there is one.
 #[tactic(auto, unfolding(crate::specs::Cards::opened))]
 fn push_opened(
-    alloc: Global,
     out: &mut Vec<u8>,
     link: Option<&str>,
     name: &[u8],
-    thumbnail: Option<&[u8]>,
+    thumbnail: Thumbnail,
 ) -> Result<(), AllocError>
     ensures { OnOk result (out.new.items
         ≡ out.old.items ++ opened link.entry name.now thumbnail.entry) }
 {
     match link {
-        Some(link) => push_within(alloc, out, link.as_bytes(), name, thumbnail),
-        None => push_picture(alloc, out, name, thumbnail),
+        Some(link) => push_within(out, link.as_bytes(), name, thumbnail),
+        None => push_picture(out, name, thumbnail),
     }
 }
 
@@ -150,15 +134,14 @@ fn push_facts(out: &mut Vec<u8>, entry: &Entry) -> Result<(), AllocError>
 
 // Appends the card of a picture.
 #[tactic(auto, unfolding(crate::specs::Cards::card))]
-pub(crate) fn push_card(alloc: Global, out: &mut Vec<u8>, entry: &Entry) -> Result<(), AllocError>
+pub(crate) fn push_card(out: &mut Vec<u8>, entry: &Entry) -> Result<(), AllocError>
     ensures { OnOk result (out.new.items ≡ out.old.items ++ card entry.now) }
 {
     let name = file_name(entry.path.as_bytes());
     out.extend_from_slice(b"<li")?;
     push_attributes(out, entry)?;
     out.extend_from_slice(b">\n")?;
-    push_opened(alloc, out, entry.link, name, entry.thumbnail)?;
-    push_between(out, b"<h3>", name, b"</h3>\n")?;
+    push_opened(out, entry.link, name, entry.thumbnail)?;
     push_facts(out, entry)?;
     out.extend_from_slice(b"</li>\n")
 }

@@ -1,5 +1,14 @@
 //! What the page shows of a picture.
 
+/// The thumbnail of a card, or the line that stands where there is none.
+#[derive(Clone, Copy)]
+pub enum Thumbnail<'a> {
+    /// A small picture, as the bytes of a JPEG file.
+    Jpeg(&'a [u8]),
+    /// A line that says why there is none, as `No thumbnail`.
+    Line(&'a str),
+}
+
 /// A picture of the page. Texts are shown as they are, escaped for HTML; nothing is read from them.
 #[derive(Clone, Copy)]
 pub struct Entry<'a> {
@@ -21,6 +30,6 @@ pub struct Entry<'a> {
     pub latitude: Option<&'a str>,
     /// The longitude in decimal degrees, as `8.5417`.
     pub longitude: Option<&'a str>,
-    /// A small picture, as the bytes of a JPEG file.
-    pub thumbnail: Option<&'a [u8]>,
+    /// Its thumbnail.
+    pub thumbnail: Thumbnail<'a>,
 }

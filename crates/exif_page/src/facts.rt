@@ -6,7 +6,7 @@ ghost use Rattle.exif_page.specs.Facts.{camera_of_facts, day_of_facts, exposure_
 
 use crate::cameras::camera_of;
 use crate::dates::{day_of, time_of};
-use crate::entries::Entry;
+use crate::entries::{Entry, Thumbnail};
 use crate::exposures::{Exposure, exposure_of};
 use std::alloc::{AllocError, Global};
 
@@ -93,11 +93,7 @@ fn time_in(date: Option<&str>) -> Option<&str>
 
 /// The entry of a picture, by its facts, the texts that are made of them ([`texts_of`]) and its
 /// thumbnail.
-pub fn entry_of<'a>(
-    facts: &'a Facts<'_>,
-    texts: &'a Texts,
-    thumbnail: Option<&'a [u8]>,
-) -> Entry<'a>
+pub fn entry_of<'a>(facts: &'a Facts<'_>, texts: &'a Texts, thumbnail: Thumbnail<'a>) -> Entry<'a>
     ensures path { result.path.now ≡ facts.now.path.now }
     ensures link { option_map (λ t. t.now) result.link
         ≡ option_map (λ t. t.now) facts.now.link }

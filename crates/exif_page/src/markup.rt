@@ -1,7 +1,7 @@
 //! The fixed parts of a page: its style, its filters and its script. None is loaded from elsewhere.
 
 ghost use Rattle.std.specs.Prelude.{◌≡◌, ◌++◌, OnOk};
-ghost use Rattle.exif_page.specs.Markup.{beginning, ending, filters, policy, preamble, style};
+ghost use Rattle.exif_page.specs.Markup.{beginning, ending, filters, policy, preamble, script, style};
 
 use std::alloc::AllocError;
 
@@ -53,13 +53,14 @@ h2 { margin: 1.5rem 0 .75rem; font-size: 1rem; }
 h2 span { margin-left: .5rem; font-weight: normal; color: var(--soft); }
 ul { list-style: none; margin: 0; padding: 0; display: grid; gap: 1rem;
   grid-template-columns: repeat(auto-fill, minmax(13rem, 1fr)); }
-li { padding-bottom: .5rem; overflow: hidden; background: var(--card);
+section { content-visibility: auto; contain-intrinsic-size: auto 22rem; }
+li { display: block; padding-bottom: .5rem; overflow: hidden; background: var(--card);
   border: 1px solid var(--line); border-radius: 8px;
   content-visibility: auto; contain-intrinsic-size: auto 17rem; }
-li img, li .none { display: block; width: 100%; height: 10rem; object-fit: contain;
-  background: var(--empty); }
-li .open { display: block; overflow: hidden; color: inherit; text-decoration: none;
-  background: var(--empty); }
+li .thumb, li .none { display: block; height: 10rem; overflow: hidden; background: var(--empty); }
+li img { display: block; width: 100%; height: 10rem; object-fit: contain; }
+li .open { display: block; color: inherit; text-decoration: none; }
+li .open:hover h3 { text-decoration: underline; }
 li[data-orientation="2"] img { transform: scaleX(-1); }
 li[data-orientation="3"] img { transform: rotate(180deg); }
 li[data-orientation="4"] img { transform: scaleY(-1); }
@@ -75,6 +76,7 @@ h3 { margin-top: .6rem; font-size: .95rem; }
 p { color: var(--soft); }
 a { color: var(--link); }
 @media (max-width: 40rem), (max-height: 30rem) { header { position: static; } }
+@media (scripting: none) { li .thumb { display: none; } }
 @media print { header { position: static; } form { display: none; } li { break-inside: avoid; } }
 "#;
 
@@ -88,12 +90,14 @@ const FILTERS: &[u8] = br#"<form hidden>
 <button type="reset">Reset</button>
 <output></output>
 </form>
+<noscript>Thumbnails need the script of this page.</noscript>
 </header>
 <main>
 "#;
 
-/// The script of the filters. It reads the `data-` attributes of the cards, and writes nothing but
-/// numbers.
+/// The script of the filters and the thumbnails. It reads the `data-` attributes of the cards, and
+/// writes numbers; a card that comes into view gets its image, of the data behind all cards, with
+/// the name of the file as its text.
 pub(crate) const SCRIPT: &[u8] = br#""use strict";
 (() => {
   const form = document.querySelector("form");
@@ -138,6 +142,33 @@ pub(crate) const SCRIPT: &[u8] = br#""use strict";
   form.addEventListener("submit", (event) => event.preventDefault());
   form.hidden = false;
   update();
+  const showThumbnails = () => {
+    const jpegs = document.querySelectorAll("script[type='text/plain']");
+    const waiting = new Map();
+    document.querySelectorAll("main .thumb").forEach((place, i) => {
+      waiting.set(place.closest("li"), { place, jpeg: jpegs[i] });
+    });
+    const show = (card) => {
+      const { place, jpeg } = waiting.get(card);
+      waiting.delete(card);
+      const image = document.createElement("img");
+      image.alt = card.querySelector("h3").textContent;
+      image.src = `data:image/jpeg;base64,${jpeg.textContent}`;
+      place.append(image);
+    };
+    const observer = new IntersectionObserver((changes) => {
+      for (const { isIntersecting, target } of changes) {
+        if (!isIntersecting) continue;
+        observer.unobserve(target);
+        if (waiting.has(target)) show(target);
+      }
+    }, { rootMargin: "100%" });
+    for (const card of waiting.keys()) observer.observe(card);
+    addEventListener("beforeprint", () => {
+      for (const card of waiting.keys()) if (!card.hidden) show(card);
+    });
+  };
+  document.addEventListener("DOMContentLoaded", showThumbnails);
 })();
 "#;
 
@@ -197,15 +228,23 @@ pub(crate) fn push_filters(out: &mut Vec<u8>) -> Result<(), AllocError>
     out.extend_from_slice(FILTERS)
 }
 
-// Appends the script, and the end of the page.
-#[tactic(auto, unfolding(crate::specs::Markup::ending))]
-pub(crate) fn push_ending(out: &mut Vec<u8>) -> Result<(), AllocError>
-    ensures { OnOk result (out.new.items ≡ out.old.items ++ ending) }
+// Appends the script, and the beginning of what holds the data of the thumbnails.
+#[tactic(auto, unfolding(crate::specs::Markup::script))]
+pub(crate) fn push_script(out: &mut Vec<u8>) -> Result<(), AllocError>
+    ensures { OnOk result (out.new.items ≡ out.old.items ++ script) }
 {
     push_parts(
         out,
         b"</main>\n<script>\n",
         SCRIPT,
-        b"</script>\n</body>\n</html>\n",
+        b"</script>\n<div hidden>\n",
     )
+}
+
+// Appends the end of the page.
+#[tactic(auto, unfolding(crate::specs::Markup::ending))]
+pub(crate) fn push_ending(out: &mut Vec<u8>) -> Result<(), AllocError>
+    ensures { OnOk result (out.new.items ≡ out.old.items ++ ending) }
+{
+    out.extend_from_slice(b"</div>\n</body>\n</html>\n")
 }

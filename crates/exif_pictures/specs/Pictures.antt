@@ -1,7 +1,7 @@
 -- What becomes of a picture, by its format.
 use Rattle.std.specs.Prelude.{ℕ, List, [], ◌∷◌, ◌++◌, codes, Some, None, Result, Ok, Err, if◌then◌else◌}
 use Rattle.exif_assign.specs.declared.assignment.Assignment.{Assignment}
-use Rattle.exif_clock.specs.declared.shift.ClockShift.{ClockShift}
+use Rattle.exif_datetime.specs.declared.shift.ClockShift.{ClockShift}
 use Rattle.exif_inventory.specs.Walks.{inventory}
 use Rattle.exif_locations.specs.declared.unread.Unread.{Unread}
 use Rattle.exif_privacy.specs.Erasing as privacy

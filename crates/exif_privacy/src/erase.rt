@@ -14,9 +14,9 @@ use crate::parts::parts_of;
 use crate::portions::{join, joined_len, put_back};
 use crate::reasons::Reasons;
 use crate::stays::{Stays, Why};
+use exif_formats::png::is_png;
 use exif_inventory::{Kind, Part};
 use exif_locations::Unread;
-use exif_png::is_png;
 use std::alloc::{AllocError, Global};
 
 // Erases the locations in one part of a file.

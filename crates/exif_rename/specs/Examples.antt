@@ -11,6 +11,7 @@ use Rattle.exif_rename.specs.Nested.{folders_of}
 use Rattle.exif_rename.specs.Orders.{dated_cmp, moment_cmp}
 use Rattle.exif_rename.specs.Patterns.{parsed}
 use Rattle.exif_rename.specs.Planned.{fit_from, own_from, planned}
+use Rattle.exif_rename.specs.Texts.{pattern_text}
 use Rattle.exif_rename.specs.Undo.{line_of}
 use Rattle.exif_rename.specs.Unused.{unused, unused_from}
 use Rattle.exif_rename.specs.Wishes.{Wanted, moves_by}
@@ -196,3 +197,20 @@ two_folders = refl
 
 no_folder : folders_of (codes "15") ≡ []
 no_folder = refl
+
+-- ---- what is said
+
+unclosed_said : pattern_text (record { fault = UnclosedBrace; at = 4 })
+    ≡ codes "character 5: this brace is not closed"
+unfolding digits
+unclosed_said = refl
+
+letter_said : pattern_text (record { fault = UnknownLetter; at = 0 })
+    ≡ codes "character 1: unknown % letter; expected %Y %y %m %d %H %M %S or %%"
+unfolding digits
+letter_said = refl
+
+brace_said : pattern_text (record { fault = LoneBrace; at = 11 })
+    ≡ codes "character 12: write }} for a brace"
+unfolding digits
+brace_said = refl

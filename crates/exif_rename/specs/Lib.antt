@@ -12,6 +12,7 @@ pub mod Patterns
 pub mod Planned
 pub mod Present
 pub mod Starts
+pub mod Texts
 pub mod Undo
 pub mod Unused
 pub mod Views

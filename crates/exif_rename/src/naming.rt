@@ -55,6 +55,11 @@ pub enum Missing {
 }
 
 impl fmt::Display for Missing {
+    ghost use Rattle.std.specs.Prelude.{Some};
+    ghost use Rattle.exif_rename.specs.Texts.{missing_text};
+
+    ghost output = { λ missing. Some (missing_text missing) };
+
     fn fmt<W: fmt::Write>(&self, f: &mut fmt::Formatter<W>) -> fmt::Result {
         f.write_str(match self {
             Missing::Date => "no date",

@@ -78,6 +78,11 @@ pub struct PatternError {
 }
 
 impl fmt::Display for PatternError {
+    ghost use Rattle.std.specs.Prelude.{Some};
+    ghost use Rattle.exif_rename.specs.Texts.{pattern_text};
+
+    ghost output = { λ error. Some (pattern_text error) };
+
     fn fmt<W: fmt::Write>(&self, f: &mut fmt::Formatter<W>) -> fmt::Result {
         let column = self.at.saturating_add(1);
         match self.fault {

@@ -1,6 +1,6 @@
 //! Which new paths files get.
 
-ghost use Rattle.std.specs.Prelude.{◌≡◌, ◌≤◌, ◌-◌, ◌&&◌, ◌||◌, not, ℕ, List, Ok, Err, IfOk, IfErr, OnOk, map, string_bytes, true, false, if◌then◌else◌};
+ghost use Rattle.std.specs.Prelude.{◌≡◌, ◌≢◌, ◌≤◌, ◌-◌, ◌&&◌, ◌||◌, not, ℕ, List, Ok, Err, IfOk, IfErr, OnOk, map, string_bytes, true, false, if◌then◌else◌};
 ghost use Rattle.std.specs.BTreeSet.{contains_text};
 ghost use Rattle.std.specs.Option.{option_or};
 ghost use Rattle.std.specs.Str.{bytes_eq};
@@ -59,6 +59,10 @@ impl<T: Drop> From<AllocFailed<T>> for PlanError {
 }
 
 impl fmt::Display for PlanError {
+    ghost use Rattle.exif_rename.specs.Texts.{plan_text};
+
+    ghost output = { plan_text };
+
     fn fmt<W: fmt::Write>(&self, f: &mut fmt::Formatter<W>) -> fmt::Result {
         match self {
             PlanError::Io(cause) => write!(f, "{cause}"),
@@ -257,6 +261,7 @@ fn can_have<F: FileSystem>(
         ≡ (not (is_claimed (contains_text given.now) (map string_bytes paths.now) path.now)
         && (bytes_eq path.now old.now || free_in s path.now)))) }
     ensures never { IfErr result (λ e. IfCrowded e (λ index. ⊥)) }
+    ensures no_memory { result ≢ Err OutOfMemory }
     ensures same { F.states files.new ≡ F.states files.old }
     ensures count { F.failures files.new ≡ count_after (is_failed result) (F.failures files.old) }
 {

@@ -1,6 +1,6 @@
 //! From which number on the search for the new name of a wish begins.
 
-ghost use Rattle.std.specs.Prelude.{◌≡◌, ◌<◌, ◌≤◌, ◌++◌, IfOk, IfErr, OnOk, string_bytes, true};
+ghost use Rattle.std.specs.Prelude.{◌≡◌, ◌≢◌, ◌<◌, ◌≤◌, ◌++◌, Err, IfOk, IfErr, OnOk, string_bytes, true};
 ghost use Rattle.std.specs.BTreeSet.{contains_text};
 ghost use Rattle.exif_files.specs.States.{Now};
 ghost use Rattle.exif_files.specs.Steps.{count_after};
@@ -8,6 +8,7 @@ ghost use Rattle.exif_rename.specs.Failures.{is_failed, IfCrowded};
 ghost use Rattle.exif_rename.specs.Planned.{free_in};
 ghost use Rattle.exif_rename.specs.Starts.{AreStarts, IsStart, NoneOpenBelow, is_open};
 ghost use Rattle.exif_rename.specs.Wishes.{candidate, wanted_of};
+ghost use Rattle.exif_rename.specs.declared.plan.PlanError.TheVariants.{OutOfMemory};
 
 use crate::plan::{PlanError, TRIES};
 use crate::wish::{Wish, candidate, joined};
@@ -96,6 +97,7 @@ fn is_open<F: FileSystem>(
     ensures answer { IfOk result (λ answer. Now (F.states files.old)
         (λ s. answer ≡ is_open (free_in s) (contains_text given.now) path.now)) }
     ensures never { IfErr result (λ e. IfCrowded e (λ index. ⊥)) }
+    ensures no_memory { result ≢ Err OutOfMemory }
     ensures same { F.states files.new ≡ F.states files.old }
     ensures count { F.failures files.new ≡ count_after (is_failed result) (F.failures files.old) }
 {

@@ -53,6 +53,7 @@ pub fn pass_over<R: Source>(source: &mut R, len: u64) -> Result<bool, Error>
         (λ whole. whole ≡ true → Skips (R.left source.old) (R.left source.new) len) }
     ensures end { IfOk result (λ whole. whole ≡ false → HasFewer (R.left source.old) len) }
     ensures interrupted { IfErr result IsInterrupted }
+    ensures no_memory { result ≢ Err OutOfMemory }
     ensures counts { Counts R.Source source.old source.new (is_io result) }
     ensures stream { R.stream source.new ≡ R.stream source.old }
 {

@@ -1,2 +1,4 @@
 pub mod Answers
+pub mod Chosen
+pub mod Scrubs
 pub mod Uses

@@ -2,14 +2,13 @@
 
 use crate::change::{change_bytes, notes_of};
 use crate::inputs::read_file;
+use crate::notes::NoteLine;
 use crate::output::{OutError, out_of, write_out};
 use crate::request::{Change, Task};
 use crate::session::{Session, Stop};
 use exif::Sink;
 use exif_change::Refusal;
-use exif_console::NoteLine;
 use exif_decisions::Outcome;
-use exif_files::Status;
 
 /// Writes a changed file to OUT, and answers its status.
 pub fn change_into<W: Sink, E: Sink>(
@@ -64,11 +63,12 @@ fn say_notes<W: Sink, E: Sink>(
 }
 
 /// Changes standard input into standard output.
-pub fn change_input<W: Sink, E: Sink>(session: &mut Session<'_, '_, W, E>) -> Result<Status, Stop> {
+pub fn change_input<W: Sink, E: Sink>(session: &mut Session<'_, '_, W, E>) -> Result<(), Stop> {
     let request = session.request;
     let outcome = match &request.task {
         Task::Change(what, _) => change_into(session, what, "-", "-", false)?,
         _ => session.refuse("-", &"standard input has no name")?,
     };
-    Ok(session.count(outcome))
+    session.count(outcome);
+    Ok(())
 }

@@ -1,12 +1,16 @@
 //! Which files are processed, by what their pictures tell.
 
+ghost use Rattle.std.specs.Prelude.{◌≡◌, IfOk, OnErr};
+ghost use Rattle.exif_session.specs.Chosen.{is_chosen};
+ghost use Rattle.exif_types.specs.declared.error.Error.TheVariants.{OutOfMemory};
+
 use crate::inputs::{open, read};
 use crate::request::Request;
 use exif::{Error, Exif};
 use exif_change::ENTRY_LIMIT;
 use exif_formats::Options;
 use exif_report::found_of;
-use exif_select::facts_of;
+use exif_summary::Choice;
 use std::alloc::AllocError;
 
 /// Whether a file is one of those that are asked for. A file that can't be read is: what is done
@@ -15,9 +19,18 @@ pub fn is_chosen(rt: &HostRuntime, request: &Request<'_>, path: &str) -> Result<
     if !request.choice.is_any() {
         return Ok(true);
     }
-    match exif_of(rt, path) {
-        Ok(exif) => Ok(request.choice.takes(facts_of(Some(&exif)))),
-        Err(Error::NotFound(_)) => Ok(request.choice.takes(facts_of(None))),
+    meets(&request.choice, &exif_of(rt, path))
+}
+
+// Whether a picture of which this was read meets the conditions. One without Exif data has neither
+// date, camera nor location, and one that can't be read is processed.
+fn meets(choice: &Choice<'_>, read: &Result<Exif, Error>) -> Result<bool, AllocError>
+    ensures value { IfOk result (λ chosen. chosen ≡ is_chosen choice.now read.now) }
+    ensures memory { OnErr result (read.now ≡ Err OutOfMemory) }
+{
+    match read {
+        Ok(exif) => Ok(choice.takes_picture(Some(exif))),
+        Err(Error::NotFound(_)) => Ok(choice.takes_picture(None)),
         Err(Error::OutOfMemory) => Err(AllocError),
         Err(_unreadable) => Ok(true),
     }

@@ -1,25 +1,26 @@
 //! Files that are changed in place, each once.
 
-ghost use Rattle.std.specs.Prelude.{◌≡◌, ◌==◌, IfOk, OnErr, length};
+ghost use Rattle.std.specs.Prelude.{◌≡◌, ◌==◌, ◌<◌, ◌+◌, ◌^◌, IfOk, OnErr, length};
 ghost use Rattle.exif_decisions.specs.Outcomes.{outcome_for};
 ghost use Rattle.exif_decisions.specs.declared.outcome.Outcome.TheVariants.{Refused};
 
 use crate::change::ChangeEdit;
 use crate::change_out::change_input;
-use crate::pending::{Next, name_of};
+use crate::console::Console;
+use crate::notes::NoteLine;
+use crate::pending::name_of;
 use crate::request::Change;
-use crate::session::{Session, Stop};
+use crate::session::{Item, Session, Stop};
 use exif::Sink;
 use exif_change::{Left, Note, Refusal};
-use exif_console::{Console, NoteLine};
-use exif_decisions::{Counts, Escaped, Found, Outcome};
+use exif_decisions::{Counts, Escaped, Outcome};
 use exif_files::{
-    Failure, HostFiles, Keeping, Report, Reporter, Status, WriteError, change, change_all,
-    folder_of,
+    Failure, HostFiles, Keeping, Report, Reporter, WriteError, change_all, folder_of,
 };
 use std::alloc::AllocError;
+use std::fmt::{self, Display};
+use std::fs;
 use std::io::{self, ErrorKind};
-use std::{fmt, fs};
 
 /// The files of a run, all found before the first is changed.
 #[derive(Drop)]
@@ -30,157 +31,92 @@ pub struct Plan {
     pub keys: Vec<String>,
 }
 
-/// Changes each file that is named or found in place, once however often it is named, and answers
-/// the worst status.
+/// Changes each file that is named or found in place, once however often it is named, and counts
+/// it.
 pub fn change_in_place<W: Sink, E: Sink>(
     session: &mut Session<'_, '_, W, E>,
     change: &Change<'_>,
     keeping: Keeping,
-) -> Result<Status, Stop> {
-    let (plan, mut worst) = Plan::gather(session)?;
-    let Plan { paths, keys } = plan;
-    let results = change_files(
-        session.rt,
-        change,
-        keeping,
-        session.request.quiet,
-        paths.as_slice(),
-        keys.as_slice(),
-        &mut session.console,
-        &mut session.pending.counts,
-    )?;
-    for status in results.iter().flatten() {
-        worst = worst.or_worse(*status);
-    }
-    Ok(worst)
+) -> Result<(), Stop> {
+    let Plan { paths, keys } = Plan::gather(session)?;
+    let rt = session.rt;
+    let mut messages = Messages {
+        paths: paths.as_slice(),
+        keys: keys.as_slice(),
+        heard: 0,
+        quiet: session.request.quiet,
+        console: &mut session.console,
+        counts: &mut session.pending.counts,
+    };
+    change_files(rt, change, keeping, keys.as_slice(), &mut messages)?;
+    Ok(())
 }
 
 // Changes the files, and reports each.
-fn change_files<'p, 'k, 'c, 'r, 'n, 'h, 'a, 't, E: Sink>(
-    rt: &'t HostRuntime,
-    change: &'h Change<'a>,
+fn change_files<E: Sink>(
+    rt: &HostRuntime,
+    change: &Change<'_>,
     keeping: Keeping,
-    quiet: bool,
-    paths: &'p [String],
-    keys: &'k [String],
-    console: &'c mut Console<'r, E>,
-    counts: &'n mut Counts,
-) -> Result<Vec<Option<Status>>, AllocError> {
+    keys: &[String],
+    messages: &mut Messages<'_, '_, '_, E>,
+) -> Result<(), AllocError>
+    requires { messages.old.heard ≡ 0 }
+{
     let edit = ChangeEdit(change);
     let mut files = HostFiles::new(rt);
-    let mut messages = Messages {
-        paths,
-        keys,
-        quiet,
-        console,
-        counts,
-    };
-    change_all(rt.alloc(), &mut files, &edit, keys, keeping, &mut messages)
+    let _results = change_all(rt.alloc(), &mut files, &edit, keys, keeping, messages)?;
+    Ok(())
 }
 
 impl Plan {
-    /// All files that are named or found, and the worst status of those that can't be followed.
-    pub fn gather<W: Sink, E: Sink>(
-        session: &mut Session<'_, '_, W, E>,
-    ) -> Result<(Plan, Status), Stop> {
+    /// All files that are named or found. Names that can't be followed are reported and counted.
+    /// Standard input is changed at once, into standard output.
+    pub fn gather<W: Sink, E: Sink>(session: &mut Session<'_, '_, W, E>) -> Result<Plan, Stop> {
         let alloc = session.rt.alloc();
         let mut plan = Plan {
             paths: Vec::new(alloc),
             keys: Vec::new(alloc),
         };
-        let mut worst = Status::Success;
         for _ in 0..u64::MAX {
-            let Some(next) = session.next_chosen()? else {
-                break;
-            };
-            worst = worst.or_worse(plan.add(session, next)?);
+            match session.next_item()? {
+                None => break,
+                Some(Item::Input) => change_input(session)?,
+                Some(Item::File(path)) => plan.add(session, path)?,
+            }
         }
-        Ok((plan, worst))
+        Ok(plan)
     }
 
-    // Adds a file, or reports why it is none. Standard input is changed at once, into standard
-    // output.
+    // Adds a file, or reports why it is none.
     fn add<W: Sink, E: Sink>(
         &mut self,
         session: &mut Session<'_, '_, W, E>,
-        next: Next,
-    ) -> Result<Status, Stop> {
-        match next {
-            Next::Input => change_input(session),
-            Next::Failed(path, cause) => refuse(session, path.as_str(), &cause),
-            Next::Beside(path, why) => {
-                session.skip(path.as_str(), Found::NotRead(why))?;
-                Ok(Status::Success)
+        path: String,
+    ) -> Result<(), Stop> {
+        match key_of(session.rt, path.as_str()) {
+            Ok(key) => {
+                self.paths.push(path)?;
+                self.keys.push(key)?;
             }
-            Next::Named(path) | Next::Found(path) => match key_of(session.rt, path.as_str()) {
-                Ok(key) => {
-                    self.paths.push(path)?;
-                    self.keys.push(key)?;
-                    Ok(Status::Success)
-                }
-                Err(cause) => refuse(session, path.as_str(), &cause),
-            },
+            Err(cause) => {
+                let outcome = session.refuse(path.as_str(), &cause)?;
+                session.count(outcome);
+            }
         }
+        Ok(())
     }
 }
 
-/// Changes one file in place, reports what became of it, and answers its status. `key` is where the
-/// links of its path end.
-pub fn change_in_turn<W: Sink, E: Sink>(
-    session: &mut Session<'_, '_, W, E>,
-    what: &Change<'_>,
-    keeping: Keeping,
-    path: &str,
-    key: &str,
-) -> Result<Status, Stop> {
-    let rt = session.rt;
-    let mut files = HostFiles::new(rt);
-    let changed = change(rt.alloc(), &mut files, &ChangeEdit(what), key, keeping);
-    if let Err(Failure::OutOfMemory) = changed {
-        return Err(Stop::OutOfMemory);
-    }
-    Ok(report_change(session, path, key, changed))
-}
-
-// What became of a file: it was changed, or in part where something was left undone, or refused.
-fn outcome_of(outcome: &Result<Report<Left, Note>, Failure<Refusal>>) -> Outcome
-    ensures ok { IfOk outcome.now (λ report.
+/// What became of a file: it was changed, or in part where something was left undone, or refused.
+pub fn outcome_of<L, N, R>(changed: &Result<Report<L, N>, Failure<R>>) -> Outcome
+    ensures ok { IfOk changed.now (λ report.
         result ≡ outcome_for (length report.left.items == 0)) }
-    ensures err { OnErr outcome.now (result ≡ Refused) }
+    ensures err { OnErr changed.now (result ≡ Refused) }
 {
-    match outcome {
+    match changed {
         Ok(report) => Outcome::of_done(report.left.is_empty()),
         Err(_) => Outcome::Refused,
     }
-}
-
-// Reports what became of a file that was changed, and answers its status.
-fn report_change<W: Sink, E: Sink>(
-    session: &mut Session<'_, '_, W, E>,
-    path: &str,
-    key: &str,
-    outcome: Result<Report<Left, Note>, Failure<Refusal>>,
-) -> Status {
-    let became = outcome_of(&outcome);
-    match outcome {
-        Ok(report) => {
-            for left in report.left.iter() {
-                session.console.say(path, left);
-            }
-        }
-        Err(failure) => session.console.say(path, &Cause { failure, key }),
-    }
-    session.console.step(session.pending.len());
-    session.count(became)
-}
-
-fn refuse<W: Sink, E: Sink>(
-    session: &mut Session<'_, '_, W, E>,
-    path: &str,
-    cause: &io::Error,
-) -> Result<Status, Stop> {
-    let outcome = session.refuse(path, cause)?;
-    Ok(session.count(outcome))
 }
 
 /// A path from the root of the file system on: where its links end, and where nothing has it, its
@@ -210,17 +146,19 @@ pub fn key_of(rt: &HostRuntime, path: &str) -> io::Result<String> {
     Ok(String::from_str(rt.alloc(), path.as_path().as_str())?)
 }
 
-// Writes what is reported of each file.
+// Counts each file, and writes what is reported of it.
 #[derive(Drop)]
-struct Messages<'p, 'k, 'c, 'r, 'n, E> {
+struct Messages<'p, 'c, 'r, E> {
     paths: &'p [String],
-    keys: &'k [String],
+    keys: &'p [String],
+    // how many names were heard of
+    heard: usize,
     quiet: bool,
     console: &'c mut Console<'r, E>,
-    counts: &'n mut Counts,
+    counts: &'c mut Counts,
 }
 
-impl<'p, 'k, 'c, 'r, 'n, E: Sink> Messages<'p, 'k, 'c, 'r, 'n, E> {
+impl<'p, 'c, 'r, E: Sink> Messages<'p, 'c, 'r, E> {
     // Writes what was left undone in a changed file, and its notes.
     fn say_all(&mut self, path: &str, report: &Report<Left, Note>) {
         for left in report.left.iter() {
@@ -233,16 +171,16 @@ impl<'p, 'k, 'c, 'r, 'n, E: Sink> Messages<'p, 'k, 'c, 'r, 'n, E> {
             self.console.say(path, &NoteLine(*note));
         }
     }
-
-    // Writes why a file was not changed.
-    fn say_failure(&mut self, path: &str, key: &str, failure: Failure<Refusal>) {
-        self.console.say(path, &Cause { failure, key });
-    }
 }
 
-impl<'p, 'k, 'c, 'r, 'n, E: Sink> Reporter<Left, Note, Refusal>
-    for Messages<'p, 'k, 'c, 'r, 'n, E> {
-    fn report(&mut self, index: usize, outcome: Result<Report<Left, Note>, Failure<Refusal>>) {
+impl<'p, 'c, 'r, E: Sink> Reporter<Left, Note, Refusal> for Messages<'p, 'c, 'r, E> {
+    ghost heard = { λ messages. messages.heard };
+
+    fn report(&mut self, outcome: Result<Report<Left, Note>, Failure<Refusal>>)
+        requires { self.old.heard + 1 < 2 ^ 64 }
+        ensures { self.new.heard ≡ self.old.heard + 1 }
+    {
+        let index = self.heard;
         let (path, key) = match (self.paths.get(index), self.keys.get(index)) {
             (Some(path), Some(key)) => (path.as_str(), key.as_str()),
             _ => ("", ""),
@@ -250,21 +188,31 @@ impl<'p, 'k, 'c, 'r, 'n, E: Sink> Reporter<Left, Note, Refusal>
         self.counts.add(outcome_of(&outcome));
         match outcome {
             Ok(report) => self.say_all(path, &report),
-            Err(failure) => self.say_failure(path, key, failure),
+            Err(failure) => self.console.say(path, &NotChanged { failure, key }),
         }
+        self.heard = index + 1;
         self.console
-            .step(self.paths.len().saturating_sub(index).saturating_sub(1));
+            .step(self.paths.len().saturating_sub(self.heard));
+    }
+
+    fn skip(&mut self)
+        requires { self.old.heard + 1 < 2 ^ 64 }
+        ensures { self.new.heard ≡ self.old.heard + 1 }
+    {
+        self.heard += 1;
     }
 }
 
-// Why a file was not changed, in words.
+/// Why a file was not changed, in words. `key` is where the links of its path end.
 #[derive(Drop)]
-struct Cause<'k> {
-    failure: Failure<Refusal>,
-    key: &'k str,
+pub struct NotChanged<'k, R> {
+    /// The cause.
+    pub failure: Failure<R>,
+    /// The file.
+    pub key: &'k str,
 }
 
-impl fmt::Display for Cause<'_> {
+impl<R: Display> Display for NotChanged<'_, R> {
     fn fmt<W: fmt::Write>(&self, f: &mut fmt::Formatter<W>) -> fmt::Result {
         match &self.failure {
             Failure::Reading(cause) => write!(f, "{cause}"),

@@ -5,24 +5,35 @@
 mod change;
 mod change_out;
 mod choosing;
+mod console;
 mod in_place;
 mod inputs;
+mod lines;
+mod notes;
 mod output;
 mod pending;
+mod progress;
 mod request;
+mod scrubbing;
 mod session;
 mod stamps;
+mod thumbnails;
 
 pub use change_out::change_into;
 pub use choosing::exif_of;
+pub use console::Console;
 pub use exif_files::Keeping;
-pub use in_place::{Plan, absolute_of, change_in_place, change_in_turn, key_of};
+pub use in_place::{NotChanged, Plan, absolute_of, change_in_place, key_of, outcome_of};
 pub use inputs::{Input, Use, open, read, read_file};
+pub use lines::Lines;
+pub use notes::NoteLine;
 pub use output::{OutError, out_of, write_out};
 pub use pending::{Next, Pending, name_of};
 pub use request::{
     Cataloguing, Change, Copying, Form, Geotagging, Paging, Reading, Renaming, Request, Table,
     Target, Task,
 };
-pub use session::{Session, Stop};
+pub use scrubbing::{ScrubOption, ScrubOptions};
+pub use session::{Item, Session, Stop};
 pub use stamps::{FileStamp, stamp_of};
+pub use thumbnails::thumbnail_of;

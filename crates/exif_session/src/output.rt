@@ -3,7 +3,7 @@
 use crate::session::Stop;
 use exif::Sink;
 use exif_base::send_all;
-use exif_decisions::{Destination, Escaped, Existing, destination_of};
+use exif_decisions::{Destination, Escaped, Existing, NoDestination, destination_of};
 use exif_files::{HostFiles, WriteError, create_new, replace};
 use std::alloc::{AllocError, Global};
 use std::{fmt, fs};
@@ -52,10 +52,10 @@ pub fn out_of(
     let destination = destination_of(to == "-", is_same(rt, path, to), existing, force);
     let to = String::from_str(rt.alloc(), to)?;
     Ok(match destination {
-        Destination::RefuseSame => Err(OutError::Same),
-        Destination::RefuseExisting => Err(OutError::Exists(to)),
-        Destination::RefuseOther => Err(OutError::Special(to)),
-        destination => Ok(destination),
+        Ok(destination) => Ok(destination),
+        Err(NoDestination::Same) => Err(OutError::Same),
+        Err(NoDestination::Exists) => Err(OutError::Exists(to)),
+        Err(NoDestination::Special) => Err(OutError::Special(to)),
     })
 }
 
@@ -70,7 +70,7 @@ pub fn write_out<W: Sink>(
     let written = match destination {
         Destination::New => create_new(rt.alloc(), &mut HostFiles::new(rt), to, bytes),
         Destination::Replace => replace_out(rt, to, bytes),
-        _ => {
+        Destination::StandardOutput => {
             send_all(out, bytes).map_err(Stop::Output)?;
             Ok(())
         }

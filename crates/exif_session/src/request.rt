@@ -11,7 +11,7 @@ use exif_copy::Selection;
 use exif_files::Keeping;
 use exif_formats::Options;
 use exif_rename::{DateTag, Pattern};
-use exif_select::Choice;
+use exif_summary::Choice;
 
 /// What the arguments request.
 #[derive(Drop)]

@@ -1,13 +1,19 @@
 //! What a run has: the files that wait, and where its answers and messages go.
 
+ghost use Rattle.std.specs.Prelude.{◌≡◌, IfOk};
+ghost use Rattle.exif_decisions.specs.Outcomes.{outcome_with};
+ghost use Rattle.exif_decisions.specs.Tallies.{counted_current, counted_done, counted_partial, counted_refused, counted_unchanged, status_in};
+ghost use Rattle.exif_decisions.specs.declared.outcome.Outcome.TheVariants.{Partial, Refused, Unchanged};
+ghost use Rattle.exif_files.specs.Statuses.{code, worse};
+
 use crate::choosing::is_chosen;
+use crate::console::Console;
 use crate::inputs::found_in_folder;
 use crate::pending::{Next, Pending};
 use crate::request::Request;
 use exif::Sink;
 use exif_base::send_all;
-use exif_console::Console;
-use exif_decisions::{Found, Outcome, Summary, status_of};
+use exif_decisions::{Found, Outcome, Summary};
 use exif_files::{Status, remove_abandoned};
 use std::alloc::{AllocError, AllocFailed};
 use std::fmt::Display;
@@ -34,6 +40,15 @@ impl<T: Drop> From<AllocFailed<T>> for Stop {
     fn from(_e: AllocFailed<T>) -> Stop {
         Stop::OutOfMemory
     }
+}
+
+/// What is processed.
+#[derive(Drop)]
+pub enum Item {
+    /// Standard input.
+    Input,
+    /// The file of this name.
+    File(String),
 }
 
 /// What a run has.
@@ -75,8 +90,11 @@ impl<'r, 'a, W: Sink, E: Sink> Session<'r, 'a, W, E> {
         })
     }
 
-    /// Sends what is held back, writes the summary, and answers the status of the program.
-    pub fn finish(&mut self, worst: Status) -> Result<u8, Stop> {
+    /// Sends what is held back, writes the summary, and answers the status of the program, which
+    /// follows from what was counted.
+    pub fn finish(&mut self) -> Result<u8, Stop>
+        ensures { IfOk result (λ status. status ≡ code (status_in self.old.pending.counts)) }
+    {
         self.out.flush().map_err(Stop::Output)?;
         self.console.clear();
         if self.request.recursive && !self.request.quiet {
@@ -91,8 +109,26 @@ impl<'r, 'a, W: Sink, E: Sink> Session<'r, 'a, W, E> {
             let line = format!(in self.rt.alloc(); "mexaldor: {summary}\n")?;
             self.console.write(line.as_str());
         }
-        let status = status_of(worst, self.pending.counts.not_read);
-        Ok(status.code())
+        Ok(self.pending.counts.status().code())
+    }
+
+    /// The next file that is to be processed, or standard input. A name that can't be followed is
+    /// reported, and counted as refused; a file that is not read is skipped.
+    pub fn next_item(&mut self) -> Result<Option<Item>, Stop> {
+        for _ in 0..u64::MAX {
+            match self.next_chosen()? {
+                None => break,
+                Some(Next::Input) => return Ok(Some(Item::Input)),
+                Some(Next::Named(path)) => return Ok(Some(Item::File(path))),
+                Some(Next::Found(path)) => return Ok(Some(Item::File(path))),
+                Some(Next::Beside(path, why)) => self.skip(path.as_str(), Found::NotRead(why))?,
+                Some(Next::Failed(path, cause)) => {
+                    let outcome = self.refuse(path.as_str(), &cause)?;
+                    self.count(outcome);
+                }
+            }
+        }
+        Ok(None)
     }
 
     /// The next file that is to be processed, if there is one: one that is chosen, and where it was
@@ -193,10 +229,35 @@ impl<'r, 'a, W: Sink, E: Sink> Session<'r, 'a, W, E> {
         Ok(())
     }
 
-    /// Counts a file.
-    pub fn count(&mut self, outcome: Outcome) -> Status {
+    /// Counts a file: what the summary says and the status of the run follow.
+    pub fn count(&mut self, outcome: Outcome)
+        ensures done { self.new.pending.counts.done
+            ≡ counted_done outcome self.old.pending.counts.done }
+        ensures partial { self.new.pending.counts.partial
+            ≡ counted_partial outcome self.old.pending.counts.partial }
+        ensures current { self.new.pending.counts.current
+            ≡ counted_current outcome self.old.pending.counts.current }
+        ensures unchanged { self.new.pending.counts.unchanged
+            ≡ counted_unchanged outcome self.old.pending.counts.unchanged }
+        ensures refused { self.new.pending.counts.refused
+            ≡ counted_refused outcome self.old.pending.counts.refused }
+    {
         self.pending.counts.add(outcome);
-        outcome.status()
+    }
+
+    /// Counts what became of something that is no file of the run: a track, a catalogue, a folder.
+    pub fn count_beside(&mut self, status: Status)
+        ensures { self.new.pending.counts.beside
+            ≡ worse self.old.pending.counts.beside status }
+    {
+        self.pending.counts.add_beside(status);
+    }
+
+    /// Reports why something that is no file of the run was refused, and counts it.
+    pub fn refuse_beside<T: Display>(&mut self, path: &str, cause: &T) -> Result<(), Stop> {
+        self.say(path, cause)?;
+        self.count_beside(Status::Refused);
+        Ok(())
     }
 
     /// Writes an answer.
@@ -205,33 +266,40 @@ impl<'r, 'a, W: Sink, E: Sink> Session<'r, 'a, W, E> {
     }
 
     /// Reports why a file was refused.
-    pub fn refuse<T: Display>(&mut self, path: &str, cause: &T) -> Result<Outcome, Stop> {
+    pub fn refuse<T: Display>(&mut self, path: &str, cause: &T) -> Result<Outcome, Stop>
+        ensures { IfOk result (λ outcome. outcome ≡ Refused) }
+    {
         self.say(path, cause)?;
         Ok(Outcome::Refused)
     }
 
     /// Reports why nothing was done with a file.
-    pub fn leave<T: Display>(&mut self, path: &str, why: &T) -> Result<Outcome, Stop> {
+    pub fn leave<T: Display>(&mut self, path: &str, why: &T) -> Result<Outcome, Stop>
+        ensures { IfOk result (λ outcome. outcome ≡ Unchanged) }
+    {
         self.say(path, why)?;
         Ok(Outcome::Unchanged)
     }
 
     /// Reports what was skipped or left undone in a file.
-    pub fn report_partial<T: Display>(&mut self, path: &str, what: &T) -> Result<Outcome, Stop> {
+    pub fn report_partial<T: Display>(&mut self, path: &str, what: &T) -> Result<Outcome, Stop>
+        ensures { IfOk result (λ outcome. outcome ≡ Partial) }
+    {
         self.say(path, what)?;
         Ok(Outcome::Partial)
     }
 
     /// Reports how many faults were skipped in a file that was read, if there were some.
-    pub fn skip_faults(&mut self, path: &str, count: usize) -> Result<Outcome, Stop> {
-        if count == 0 {
-            return Ok(Outcome::Done);
-        }
+    pub fn skip_faults(&mut self, path: &str, count: usize) -> Result<Outcome, Stop>
+        ensures { IfOk result (λ outcome. outcome ≡ outcome_with count) }
+    {
         if count == 1 {
-            return self.report_partial(path, &"1 fault was skipped");
+            self.say(path, &"1 fault was skipped")?;
+        } else if count > 1 {
+            let text = format!(in self.rt.alloc(); "{count} faults were skipped")?;
+            self.say(path, &text)?;
         }
-        let text = format!(in self.rt.alloc(); "{count} faults were skipped")?;
-        self.report_partial(path, &text)
+        Ok(Outcome::of_faults(count))
     }
 
     /// Writes a message about a file, after all answers that were written before.

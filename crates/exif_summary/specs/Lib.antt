@@ -3,3 +3,5 @@ pub mod Coordinates
 pub mod Dates
 pub mod Seen
 pub mod Columns
+pub mod Bounds
+pub mod Choices

@@ -1,5 +1,6 @@
 //! The call of a case: its output, and the text of how it ends.
 
+use crate::cases::{Call, Case, CaseError};
 use crate::changes::change;
 use crate::edits::edit;
 use crate::readings::{by_need, end_of_report, exif_data, json, parsed, raw};
@@ -8,7 +9,6 @@ use crate::texts::{dated, shown};
 use crate::writings::{copied, image, kept, rewritten, scrubbed};
 use exif::{Error, Sink, Source};
 use exif_base::send_all;
-use exif_cases::{Call, Case, CaseError};
 use std::alloc::Global;
 use std::fmt;
 use std::fmt::{Display, Write};

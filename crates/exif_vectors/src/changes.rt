@@ -1,8 +1,8 @@
 //! Whole files that programs change.
 
 use crate::calls::{end_of, end_of_error, send};
+use crate::cases::{Call, Case, CaseError};
 use exif::{Sink, Source};
-use exif_cases::{Call, Case, CaseError};
 use exif_change::{
     Assignment, Changed, ClockShift, Dates, Refusal, Removed, Unread, read, thumbnail,
 };

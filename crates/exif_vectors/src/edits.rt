@@ -1,8 +1,8 @@
 //! Edits: in place, and as patches, which must have the same outcome.
 
 use crate::calls::{OUT_OF_MEMORY, end_of, end_of_error, send};
+use crate::cases::{Call, Case, CaseError, Kind};
 use exif::{Counted, Field, In, Seekable, Sink, Source, Tag};
-use exif_cases::{Call, Case, CaseError, Kind};
 use exif_edit::{Edit, Error, Patch, apply, patches_of};
 use exif_edit_files::{apply_in_file, patches_in};
 use exif_segments::util::read_all;

@@ -5,17 +5,19 @@
 #![tactic(auto)]
 
 mod calls;
+mod cases;
 mod changes;
 mod edits;
 mod memory;
 mod modes;
+mod parts;
 mod readings;
 mod script;
 mod tables;
 mod texts;
 mod writings;
 
-use exif_cases::CaseError;
+use crate::cases::CaseError;
 use script::{Script, Tally};
 use std::process::ExitCode;
 use std::{env, fs, io};

@@ -2,8 +2,8 @@
 //! enough.
 
 use crate::calls::{OUT_OF_MEMORY, run};
+use crate::cases::{Case, CaseError};
 use exif::Counted;
-use exif_cases::{Case, CaseError};
 use exif_test_support::shortage::{MAX_STEPS, take_most, take_rest};
 use std::alloc::Global;
 

@@ -1,9 +1,10 @@
 //! The modes in which a case is run, and how what comes out differs from what is expected.
 
 use crate::calls::run;
+use crate::cases::{Call, Case, CaseError};
 use crate::memory::short_of_memory;
+use crate::parts::differs;
 use exif::{Counted, Seekable, Tag, Value};
-use exif_cases::{Call, Case, CaseError};
 use exif_test_support::devices::{Drip, Failure, READ_FAILURES, Slow, WRITE_FAILURES};
 use std::alloc::{AllocError, Global};
 use std::io::Cursor;
@@ -199,7 +200,11 @@ fn unfailing(alloc: Global, case: &Case) -> Result<Option<String>, CaseError> {
         return Ok(found);
     }
     let got = slow(alloc, case, usize::MAX, usize::MAX, READ_FAILURES[0])?;
-    compared(alloc, case, "slow", 0, &got)
+    let found = compared(alloc, case, "slow", 0, &got)?;
+    if found.is_some() {
+        return Ok(found);
+    }
+    differs(alloc, case)
 }
 
 /// How a case differs from what is expected, if it does.

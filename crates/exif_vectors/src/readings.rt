@@ -1,9 +1,9 @@
 //! The calls that read.
 
 use crate::calls::{end_of_error, send};
+use crate::cases::{Case, CaseError, Kind};
 use exif::{Error, Exif, Field, Reader, Sink, Source, parse_exif};
 use exif_base::{Blocks, Counted};
-use exif_cases::{Case, CaseError, Kind};
 use exif_containers::{exif_attr_of_stream, isobmff};
 use exif_formats::{Options, Picture, read_bytes};
 use exif_json::json_of_answer;

@@ -1,7 +1,7 @@
 //! A data file: blocks of lines, each with an empty line behind it.
 
+use crate::cases::{Case, CaseError, Named, Word, bytes_of, words_of};
 use crate::modes::mismatch;
-use exif_cases::{Case, CaseError, Named, Word, bytes_of, words_of};
 use std::alloc::Global;
 
 /// How many cases passed, and how many failed.

@@ -1,8 +1,8 @@
 //! What the tag table says, and the types of values.
 
 use crate::calls::send;
+use crate::cases::{Call, Case};
 use exif::{Context, Error, Field, Sink, Tag, Value};
-use exif_cases::{Call, Case};
 use exif_table::rows::rows;
 use exif_table::{DefaultValue, Row, UnitPiece, find_row};
 use std::alloc::{AllocError, Global};

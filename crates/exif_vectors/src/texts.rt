@@ -1,8 +1,8 @@
 //! The texts of values, and dates.
 
 use crate::calls::{end_of, send};
+use crate::cases::{Call, Case, CaseError};
 use exif::{DateTime, Error, Field, Sink};
-use exif_cases::{Call, Case, CaseError};
 use std::alloc::{AllocError, Global};
 use std::fmt::Display;
 

@@ -1,10 +1,10 @@
 //! The calls that write Exif data, and those that write whole files.
 
 use crate::calls::{end_of, end_of_error, send};
+use crate::cases::{Block, BlockKind, Case, CaseError, Kind};
 use crate::readings::read_fields;
 use exif::experimental::Writer;
 use exif::{Error, Exif, Field, In, Sink, Source};
-use exif_cases::{Block, BlockKind, Case, CaseError, Kind};
 use exif_rewrite::{
     Ended, Remove, rewrite, rewrite_jpeg, rewrite_jpeg_as_it_stands, rewrite_webp, scrub,
     scrubbed_exif,

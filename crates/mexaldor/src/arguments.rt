@@ -1,7 +1,9 @@
 //! The arguments of the program.
 
+use crate::changes::PLACES_ONLY;
 use crate::options;
 use clap::{Arg, Command};
+use exif_session::ScrubOption;
 use std::alloc::{AllocError, Global};
 
 /// The program's arguments, for its help and for reading them.
@@ -179,8 +181,8 @@ fn replacing<'a>(alloc: Global, command: Command<'a>) -> Result<Command<'a>, All
 
 fn locations_only<'a>(alloc: Global, id: &'a str, help: &'a str) -> Result<Arg<'a>, AllocError> {
     options::flag(alloc, id, help)
-        .conflicts_with("keep-orientation")?
-        .conflicts_with("strip-color")
+        .conflicts_with(ScrubOption::KeepOrientation.name())?
+        .conflicts_with(ScrubOption::StripColor.name())
 }
 
 fn scrub<'a>(alloc: Global) -> Result<Command<'a>, AllocError> {
@@ -192,13 +194,25 @@ fn scrub<'a>(alloc: Global) -> Result<Command<'a>, AllocError> {
         .after_help(
             "What stays: the colour profile, and in JPEG files the fields of the JFIF and Adobe segments; in TIFF files the tags that describe the picture. Whatever else may hold metadata, or with --locations-only a location, is reported, and the exit status is 3.",
         )
-        .arg(options::flag(alloc, "keep-orientation", "Keep the orientation"))?
-        .arg(options::flag(alloc, "strip-color", "Also remove the colour profile"))?
-        .arg(locations_only(alloc, "locations-only", "Only erase locations, in place")?)?
-        .arg(locations_only(alloc, "places-only", "The same as --locations-only")?)?
         .arg(options::flag(
             alloc,
-            "force-blank",
+            ScrubOption::KeepOrientation.name(),
+            "Keep the orientation",
+        ))?
+        .arg(options::flag(
+            alloc,
+            ScrubOption::StripColor.name(),
+            "Also remove the colour profile",
+        ))?
+        .arg(locations_only(
+            alloc,
+            ScrubOption::LocationsOnly.name(),
+            "Only erase locations, in place",
+        )?)?
+        .arg(locations_only(alloc, PLACES_ONLY, "The same as --locations-only")?)?
+        .arg(options::flag(
+            alloc,
+            ScrubOption::ForceBlank.name(),
             "With --locations-only, also overwrite XMP and IPTC that can't be read",
         ))?;
     changing(alloc, command)?.arg(options::words(

@@ -3,22 +3,32 @@
 use crate::selection::{Wrong, keeping_of, request, takes_many, words_of, wrong};
 use crate::tags::unknown_tag;
 use clap::ArgMatches;
-use exif_change::{Assignment, ClockShift, Color, Dates, Removed, Unread};
+use exif_change::{Assignment, ClockShift, Dates};
 use exif_copy::{Selection, Shape};
 use exif_decisions::{Escaped, is_assignment};
-use exif_session::{Change, Copying, Request, Target, Task};
+use exif_session::{Change, Copying, Request, ScrubOption, ScrubOptions, Target, Task};
 use std::alloc::{AllocError, Global};
+
+/// Another name of `--locations-only`.
+pub const PLACES_ONLY: &str = "places-only";
 
 pub fn scrub_of<'a>(
     alloc: Global,
     matches: &ArgMatches<'a>,
 ) -> Result<Result<Request<'a>, Wrong>, AllocError> {
-    if matches.get_flag("force-blank") && !erases_locations(matches) {
-        return wrong(alloc, "--force-blank requires --locations-only");
+    let mut options = ScrubOptions::new();
+    for option in ScrubOption::ALL {
+        if matches.get_flag(option.name()) {
+            options = options.with(option);
+        }
     }
-    let files = words_of(alloc, matches)?;
-    let change = Change::Scrub(removed_of(matches), color_of(matches));
-    changing(alloc, change, matches, files)
+    if matches.get_flag(PLACES_ONLY) {
+        options = options.with(ScrubOption::LocationsOnly);
+    }
+    match options.change() {
+        Some(change) => changing(alloc, change, matches, words_of(alloc, matches)?),
+        None => wrong(alloc, "--force-blank requires --locations-only"),
+    }
 }
 
 pub fn set_of<'a>(
@@ -120,36 +130,6 @@ fn changing<'a>(
             request(alloc, Task::Change(change, target), matches, files)
         }
         _ => wrong(alloc, "expected FILE OUT, or --in-place FILE..."),
-    }
-}
-
-fn unread_of(matches: &ArgMatches<'_>) -> Unread {
-    if matches.get_flag("force-blank") {
-        Unread::Blank
-    } else {
-        Unread::Keep
-    }
-}
-
-fn erases_locations(matches: &ArgMatches<'_>) -> bool {
-    matches.get_flag("locations-only") || matches.get_flag("places-only")
-}
-
-fn removed_of(matches: &ArgMatches<'_>) -> Removed {
-    if erases_locations(matches) {
-        Removed::Gps(unread_of(matches))
-    } else if matches.get_flag("keep-orientation") {
-        Removed::AllButOrientation
-    } else {
-        Removed::Metadata
-    }
-}
-
-fn color_of(matches: &ArgMatches<'_>) -> Color {
-    if matches.get_flag("strip-color") {
-        Color::Strip
-    } else {
-        Color::Keep
     }
 }
 

@@ -5,9 +5,9 @@ use crate::tags::tags_in;
 use clap::ArgMatches;
 use exif_columns::{self as columns, Separator};
 use exif_decisions::Escaped;
+use exif_geotag::{DEFAULT_GAP, exif_time_of, gap_in};
 use exif_rename::{DateTag, Pattern};
 use exif_session::{Cataloguing, Geotagging, Renaming, Request, Table, Task};
-use exif_track::{DEFAULT_GAP, exif_time_of, gap_in};
 use std::alloc::{AllocError, Global};
 
 pub fn table_of<'a>(

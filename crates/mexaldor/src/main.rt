@@ -14,10 +14,10 @@ use arguments::command;
 use asked::{Asked, asked_of};
 use clap::Error;
 use exif::Counted;
-use exif_catalog_commands::{answer_query, write_page};
+use exif_catalog_commands::{answer_query, run_catalog, write_page};
 use exif_commands::run;
 use exif_decisions::write_tags;
-use exif_session::{Paging, Request, Stop};
+use exif_session::{Paging, Request, Stop, Task};
 use line::words;
 use std::io::{self, BufWriter, ErrorKind, IsTerminal};
 use std::process::ExitCode;
@@ -98,7 +98,18 @@ fn done(rt: &HostRuntime, request: &Request<'_>) -> u8 {
     };
     let mut out = Counted::new(out);
     let mut err = Counted::new(rt.stderr());
-    match run(rt, request, shows_progress, &mut out, &mut err) {
+    let ended = match &request.task {
+        Task::Catalog(cataloguing) => run_catalog(
+            rt,
+            request,
+            cataloguing,
+            shows_progress,
+            &mut out,
+            &mut err,
+        ),
+        _ => run(rt, request, shows_progress, &mut out, &mut err),
+    };
+    match ended {
         Ok(status) => status,
         Err(stop) => stopped(rt, stop),
     }

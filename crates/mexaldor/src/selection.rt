@@ -3,8 +3,8 @@
 use clap::ArgMatches;
 use exif_change::ENTRY_LIMIT;
 use exif_decisions::Escaped;
-use exif_select::{Choice, begin_of};
 use exif_session::{Keeping, Reading, Request, Task};
+use exif_summary::{Choice, begin_of};
 use std::alloc::{AllocError, Global};
 
 /// What is wrong, in words.

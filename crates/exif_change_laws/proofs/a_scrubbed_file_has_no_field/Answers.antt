@@ -2,7 +2,7 @@ use Rattle.std.proofs.Common.{◌∙◌, sym}
 use Rattle.exif_containers.specs.declared.container.Format.TheVariants.{Heif}
 use Rattle.exif_tiff.specs.Trace.{trace}
 use Rattle.exif_change.specs.declared.scrubbing.Removed.TheVariants.{AllButOrientation}
-use Rattle.exif_scrub_heif.specs.Scrubbing as heif
+use Rattle.exif_scrub.specs.HeifScrubbing as heif
 use Rattle.exif_change_laws.proofs.ScrubbedFiles.{heif_read, heif_short, scrubbed_by, scrubbed_read}
 use Rattle.exif_change_laws.proofs.a_scrubbed_file_has_no_field.Goals as goal
 

@@ -1,6 +1,6 @@
 use Rattle.std.proofs.Common.{◌<◌, ◌^◌, subst, sym}
 use Rattle.std.specs.Prelude.{length}
-use Rattle.exif_clock.specs.Shift.{opposite}
+use Rattle.exif_datetime.specs.Shift.{opposite}
 use Rattle.exif_change_laws.proofs.ShiftedFiles.{held_again, read_again, was_shifted}
 use Rattle.exif_change_laws.proofs.a_shift_and_its_opposite_give_what_was_read.Goals as goal
 

@@ -1,4 +1,4 @@
-use Rattle.exif_grow_fields.proofs.FieldSound.{are_set}
+use Rattle.exif_grow.proofs.FieldSound.{are_set}
 use Rattle.exif_change.proofs.SetKept.{set_in_file}
 use Rattle.exif_change.proofs.set_laws.fields_set_in_the_data_of_a_file_are_read.Goals as goal
 

@@ -1,6 +1,6 @@
 use Rattle.std.proofs.Common.{◌≡◌, ◌∙◌, List, ℕ, Ok, sym, subst}
 use Rattle.exif_containers.specs.declared.container.Format.TheVariants.{Heif}
-use Rattle.exif_scrub_heif.specs.Scrubbing as heif
+use Rattle.exif_scrub.specs.HeifScrubbing as heif
 use Rattle.exif_change.specs.Changes.{heif_emptied}
 use Rattle.exif_change_laws.proofs.HeifAgain.{heif_stays}
 use Rattle.exif_change_laws.proofs.LeftKnown.{heif_taken}

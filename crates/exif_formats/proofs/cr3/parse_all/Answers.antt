@@ -2,7 +2,7 @@ use Rattle.std.proofs.Common.{Ok, ap, ◌∙◌, sym}
 use Rattle.exif_base.specs.Orders.{order_named}
 use Rattle.exif_tiff.specs.Answers.{raw_answer, shown}
 use Rattle.exif_tiff.specs.Trace.{header}
-use Rattle.exif_raw.specs.Cr3Steps.{parts_view}
+use Rattle.exif_formats.specs.Cr3Steps.{parts_view}
 use Rattle.exif_formats.proofs.Joined.{all_say}
 use Rattle.exif_formats.proofs.cr3.parse_all.Goals as goal
 

@@ -1,8 +1,7 @@
 //! Data that grow: a value appended, a field inserted, a directory created.
 
 use super::{DESCRIPTION, is_so, text};
-use exif_grow::{Error, grow_value, grown};
-use exif_grow_fields::set_fields;
+use exif_grow::{Error, grow_value, grown, set_fields};
 use exif_test_support::files::DESCRIBED_BIG;
 use exif_types::{Context, Field, In, Tag};
 use std::alloc::Global;

@@ -1,3 +1,0 @@
-pub mod Calendar
-pub mod Numbers
-pub mod Shift

@@ -1,5 +1,0 @@
-use Rattle.exif_edit_laws.proofs.RemovedUnshared.{erased_apart}
-use Rattle.exif_edit_laws.proofs.fields_looked_at_once_are_erased.Goals as goal
-
-pub returns : goal.returns
-returns c = erased_apart

@@ -1,0 +1,99 @@
+-- Times (ISO 8601-1, 5.4; XML Schema Part 2, 3.2.7), as milliseconds of UTC.
+use Rattle.std.specs.Prelude.{ℕ, ◌+◌, ◌*◌, ◌-◌, ◌==◌, ◌&&◌, ◌||◌, nat_lt, Bool, if◌then◌else◌, List, [], ◌∷◌, length, drop, take, slice_index, Option, Some, None}
+use Rattle.std.specs.Char.{is_ascii_digit}
+use Rattle.std.specs.Option.{option_and_then, option_map}
+use Rattle.exif_locations.specs.XmpScans.{run}
+use Rattle.exif_geotag.specs.Calendar.{day_number}
+use Rattle.exif_geotag.specs.Numbers.{below, fraction_of}
+
+-- the number that two digits spell
+abbrev pub number_at : ℕ → List ℕ → Option ℕ
+number_at at text =
+    if is_ascii_digit (slice_index text at) && is_ascii_digit (slice_index text (at + 1))
+    then Some ((slice_index text at - 48) * 10 + (slice_index text (at + 1) - 48)) else None
+
+-- the number of the day that `YYYY-MM-DD` spells
+unfoldable pub date_of : List ℕ → Option ℕ
+date_of text =
+    option_and_then (λ century. option_and_then (λ year. option_and_then (λ month.
+    option_and_then (λ day. day_number (century * 100 + year) month day)
+    (number_at 8 text)) (number_at 5 text)) (number_at 2 text)) (number_at 0 text)
+
+-- the seconds of a clock
+abbrev pub seconds_of : ℕ → ℕ → ℕ → Option ℕ
+seconds_of hour minute second =
+    if nat_lt hour 24 && (nat_lt minute 60 && nat_lt second 60)
+    then Some (hour * 3600 + minute * 60 + second) else None
+
+-- the seconds that `HH:MM:SS` spells behind a date
+unfoldable pub clock_of : List ℕ → Option ℕ
+clock_of text =
+    option_and_then (λ hour. option_and_then (λ minute. option_and_then (λ second.
+    seconds_of hour minute second) (number_at 17 text)) (number_at 14 text)) (number_at 11 text)
+
+-- whether a text has the marks between the numbers: two of a date, `T` or a space, `:` and `:`
+abbrev pub is_split : ℕ → List ℕ → Bool
+is_split mark text =
+    (slice_index text 4 == mark) && ((slice_index text 7 == mark)
+    && (((slice_index text 10 == 84)
+    || ((slice_index text 10 == 116) || (slice_index text 10 == 32)))
+    && ((slice_index text 13 == 58) && (slice_index text 16 == 58))))
+
+-- how many bytes at the front are digits
+abbrev pub digits_len : List ℕ → ℕ
+digits_len text = run is_ascii_digit text
+
+-- how many bytes the fraction of a second has: a point and digits, or none
+abbrev pub fraction_len : List ℕ → ℕ
+fraction_len rest =
+    if (slice_index rest 0 == 46) && is_ascii_digit (slice_index rest 1)
+    then 1 + digits_len (drop 1 rest) else 0
+
+-- the thousandths that a fraction of a second has
+abbrev pub thousandths_of : List ℕ → Option ℕ
+thousandths_of [] = Some 0
+thousandths_of (point ∷ digits) = fraction_of 100 digits 0
+
+-- the milliseconds by which a zone is off UTC: `+hh:mm` or `-hh:mm`, whatever its sign
+unfoldable pub zone_of : List ℕ → Option ℕ
+zone_of zone =
+    option_and_then (λ hours. option_and_then (λ minutes.
+    if (length zone == 6) && ((slice_index zone 3 == 58) && (nat_lt hours 24 && nat_lt minutes 60))
+    then Some ((hours * 60 + minutes) * 60000) else None) (number_at 4 zone)) (number_at 1 zone)
+
+-- a time of a zone, in UTC; without a zone it is one of UTC
+abbrev pub zoned : ℕ → List ℕ → Option ℕ
+zoned time zone =
+    if slice_index zone 0 == 43 then option_and_then (below time) (zone_of zone)
+    else (if slice_index zone 0 == 45 then option_map (λ offset. time + offset) (zone_of zone)
+    else (if ((slice_index zone 0 == 90) || (slice_index zone 0 == 122)) && (length zone == 1)
+    then Some time else (if length zone == 0 then Some time else None)))
+
+-- the milliseconds of a date and a clock, from the start of the year 0
+unfoldable pub milliseconds_of : List ℕ → Option ℕ
+milliseconds_of text =
+    option_and_then (λ days. option_map (λ seconds. (days * 86400 + seconds) * 1000)
+    (clock_of text)) (date_of text)
+
+-- the milliseconds of a date with such marks and a clock, from the start of the year 0
+abbrev pub date_time_of : ℕ → List ℕ → Option ℕ
+date_time_of mark text =
+    if nat_lt (length text) 19 then None
+    else (if is_split mark text then milliseconds_of text else None)
+
+-- what follows the seconds: a fraction, and a zone
+unfoldable pub ended : List ℕ → ℕ → Option ℕ
+ended rest whole =
+    option_and_then (λ part. zoned (whole + part) (drop (fraction_len rest) rest))
+    (thousandths_of (take (fraction_len rest) rest))
+
+-- the time that a text spells
+unfoldable pub time_of : List ℕ → Option ℕ
+time_of text = option_and_then (ended (drop 19 text)) (date_time_of 45 text)
+
+-- the time of a date of Exif data, with the digits of a fraction of a second and an offset from UTC
+-- (Exif 2.32, 4.6.4, DateTime, and 4.6.5, SubSecTime and OffsetTime)
+unfoldable pub exif_time_of : List ℕ → List ℕ → List ℕ → Option ℕ
+exif_time_of date subsec offset =
+    option_and_then (λ whole. option_and_then (λ part. zoned (whole + part) offset)
+    (fraction_of 100 (take (digits_len subsec) subsec) 0)) (date_time_of 58 date)

@@ -1,0 +1,202 @@
+//! Times (ISO 8601-1, 5.4; XML Schema Part 2, 3.2.7), as milliseconds of UTC.
+
+ghost use Rattle.std.specs.Prelude.{◌≡◌, ◌+◌, ◌<◌, ◌≤◌, ◌^◌, length, IfSome};
+ghost use Rattle.exif_geotag.specs.Times.{clock_of, date_of, date_time_of, digits_len, ended, exif_time_of, fraction_len, is_split, milliseconds_of, number_at, seconds_of, thousandths_of, time_of, zone_of, zoned};
+
+use crate::calendar::day_number;
+use crate::number::{below, fraction_of};
+use exif_locations::xmp::scan::byte_at;
+
+// How many bytes a date and a clock have: `YYYY-MM-DDTHH:MM:SS`.
+const FRONT: usize = 19;
+
+// The milliseconds of a minute.
+const MINUTE: u64 = 60_000;
+
+// The number that two digits spell.
+fn number_at(at: usize, text: &[u8]) -> Option<u64>
+    requires { at < 2 ^ 32 }
+    ensures answer { result ≡ number_at at text.now }
+    ensures below { IfSome result (λ number. number < 100) }
+{
+    let (tens, ones) = (byte_at(text, at), byte_at(text, at + 1));
+    if tens.is_ascii_digit() && ones.is_ascii_digit() {
+        Some(u64::from(tens - b'0') * 10 + u64::from(ones - b'0'))
+    } else {
+        None
+    }
+}
+
+// The number of the day that `YYYY-MM-DD` spells.
+#[tactic(auto, unfolding(crate::specs::Times::date_of))]
+fn date_of(text: &[u8]) -> Option<u64>
+    ensures answer { result ≡ date_of text.now }
+    ensures small { IfSome result (λ days. days < 2 ^ 25) }
+{
+    let century = number_at(0, text)?;
+    let year = number_at(2, text)?;
+    let month = number_at(5, text)?;
+    let day = number_at(8, text)?;
+    day_number(century * 100 + year, month, day)
+}
+
+// The seconds of a clock.
+fn seconds_of(hour: u64, minute: u64, second: u64) -> Option<u64>
+    ensures answer { result ≡ seconds_of hour minute second }
+    ensures small { IfSome result (λ seconds. seconds < 2 ^ 17) }
+{
+    if hour < 24 && minute < 60 && second < 60 {
+        Some(hour * 3600 + minute * 60 + second)
+    } else {
+        None
+    }
+}
+
+// The seconds that `HH:MM:SS` spells behind a date.
+#[tactic(auto, unfolding(crate::specs::Times::clock_of))]
+fn clock_of(text: &[u8]) -> Option<u64>
+    ensures answer { result ≡ clock_of text.now }
+    ensures small { IfSome result (λ seconds. seconds < 2 ^ 17) }
+{
+    let hour = number_at(11, text)?;
+    let minute = number_at(14, text)?;
+    let second = number_at(17, text)?;
+    seconds_of(hour, minute, second)
+}
+
+// Whether a text has the marks between the numbers: two of a date, `T` or a space, `:` and `:`.
+fn is_split(mark: u8, text: &[u8]) -> bool
+    ensures { result ≡ is_split mark text.now }
+{
+    let letter = byte_at(text, 10);
+    byte_at(text, 4) == mark
+        && byte_at(text, 7) == mark
+        && (letter == b'T' || letter == b't' || letter == b' ')
+        && byte_at(text, 13) == b':'
+        && byte_at(text, 16) == b':'
+}
+
+// How many bytes at the front are digits.
+fn digits_len(text: &[u8]) -> usize
+    ensures value { result ≡ digits_len text.now }
+    ensures within { result ≤ length text.now }
+{
+    for at in 0..text.len() {
+        if !text[at].is_ascii_digit() {
+            return at;
+        }
+    }
+    text.len()
+}
+
+// How many bytes the fraction of a second has: a point and digits, or none.
+fn fraction_len(rest: &[u8]) -> usize
+    ensures value { result ≡ fraction_len rest.now }
+    ensures within { result ≤ length rest.now }
+{
+    if byte_at(rest, 0) == b'.' && byte_at(rest, 1).is_ascii_digit() {
+        1 + digits_len(&rest[1..])
+    } else {
+        0
+    }
+}
+
+// The thousandths that a fraction of a second has; more digits are cut off.
+fn thousandths_of(fraction: &[u8]) -> Option<u64>
+    ensures answer { result ≡ thousandths_of fraction.now }
+    ensures small { IfSome result (λ number. number ≤ 1000) }
+{
+    if fraction.is_empty() {
+        return Some(0);
+    }
+    fraction_of(100, &fraction[1..], 0)
+}
+
+// The milliseconds by which a zone is off UTC: `+hh:mm` or `-hh:mm`, whatever its sign.
+#[tactic(auto, unfolding(crate::specs::Times::zone_of))]
+fn zone_of(zone: &[u8]) -> Option<u64>
+    ensures answer { result ≡ zone_of zone.now }
+    ensures small { IfSome result (λ offset. offset < 2 ^ 27) }
+{
+    let hours = number_at(1, zone)?;
+    let minutes = number_at(4, zone)?;
+    if zone.len() == 6 && byte_at(zone, 3) == b':' && hours < 24 && minutes < 60 {
+        Some((hours * 60 + minutes) * MINUTE)
+    } else {
+        None
+    }
+}
+
+// A time of a zone, in UTC. Without a zone it is one of UTC.
+fn zoned(time: u64, zone: &[u8]) -> Option<u64>
+    requires { time < 2 ^ 60 }
+    ensures { result ≡ zoned time zone.now }
+{
+    match byte_at(zone, 0) {
+        b'+' => below(time, zone_of(zone)?),
+        b'-' => Some(time + zone_of(zone)?),
+        b'Z' | b'z' if zone.len() == 1 => Some(time),
+        _ => { if zone.is_empty() { Some(time) } else { None } }
+    }
+}
+
+// The milliseconds of a date and a clock, from the start of the year 0.
+#[tactic(auto, unfolding(crate::specs::Times::milliseconds_of))]
+fn milliseconds_of(text: &[u8]) -> Option<u64>
+    ensures answer { result ≡ milliseconds_of text.now }
+    ensures small { IfSome result (λ time. time < 2 ^ 59) }
+{
+    let days = date_of(text)?;
+    let seconds = clock_of(text)?;
+    Some((days * 86_400 + seconds) * 1000)
+}
+
+// The milliseconds of a date with such marks and a clock, from the start of the year 0.
+fn date_time_of(mark: u8, text: &[u8]) -> Option<u64>
+    ensures answer { result ≡ date_time_of mark text.now }
+    ensures small { IfSome result (λ time. time < 2 ^ 59) }
+    ensures long { IfSome result (λ time. 19 ≤ length text.now) }
+{
+    if text.len() < FRONT || !is_split(mark, text) {
+        return None;
+    }
+    milliseconds_of(text)
+}
+
+// A time with what follows its seconds: a fraction, and a zone.
+#[tactic(auto, unfolding(crate::specs::Times::ended))]
+fn ended(whole: u64, rest: &[u8]) -> Option<u64>
+    requires { whole < 2 ^ 59 }
+    ensures { result ≡ ended rest.now whole }
+{
+    let len = fraction_len(rest);
+    let part = thousandths_of(&rest[..len])?;
+    zoned(whole + part, &rest[len..])
+}
+
+/// The time that a text spells: `YYYY-MM-DDTHH:MM:SS`, then a fraction of a second if there is one,
+/// and `Z`, `+hh:mm`, `-hh:mm` or nothing, which is UTC. `T` and `Z` may be small, and `T` a space.
+/// The time is in milliseconds of UTC from the start of the year 0 of the Gregorian calendar,
+/// without leap seconds; further digits are cut off. `None` where the text is another, or names a
+/// day or a time that does not exist. It takes no memory.
+#[tactic(auto, unfolding(crate::specs::Times::time_of))]
+pub fn time_of(text: &[u8]) -> Option<u64>
+    ensures { result ≡ time_of text.now }
+{
+    let whole = date_time_of(b'-', text)?;
+    ended(whole, &text[FRONT..])
+}
+
+/// The time of a date of Exif data, in the unit of `time_of`: `date` is `YYYY:MM:DD HH:MM:SS`, and
+/// more bytes are ignored; `subsec` has the digits of a fraction of a second at its front, or none;
+/// `offset` is `+hh:mm`, `-hh:mm` or empty, which is UTC (Exif 2.32, 4.6.4, DateTime, and 4.6.5,
+/// SubSecTime and OffsetTime). `None` where `date` or `offset` is another text, or names a day or a
+/// time that does not exist. It takes no memory.
+#[tactic(auto, unfolding(crate::specs::Times::exif_time_of))]
+pub fn exif_time_of(date: &[u8], subsec: &[u8], offset: &[u8]) -> Option<u64>
+    ensures { result ≡ exif_time_of date.now subsec.now offset.now }
+{
+    let whole = date_time_of(b':', date)?;
+    let part = fraction_of(100, &subsec[..digits_len(subsec)], 0)?;
+    zoned(whole + part, offset)
+}

@@ -1,3 +1,0 @@
-pub mod ClosedBoxes
-pub mod ItemSound
-pub mod ItemSteps

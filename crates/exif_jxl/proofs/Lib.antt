@@ -1,4 +1,0 @@
-pub mod BoxSteps
-pub mod LawsJxl
-pub mod ReadSteps
-pub mod TreesJxl

@@ -1,4 +1,0 @@
-pub mod Jxl
-pub mod JxlSteps
-pub mod JxlGrammar
-pub mod Examples

@@ -1,0 +1,11 @@
+pub mod Again
+pub mod Answered
+pub mod Bareness
+pub mod Firsts
+pub mod FilterSteps
+pub mod MarkerSegments
+pub mod PieceKinds
+pub mod Passes
+pub mod Pieces
+pub mod Rereads
+pub mod Settling

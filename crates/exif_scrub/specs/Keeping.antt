@@ -1,0 +1,31 @@
+-- Numbers of a file, and bytes of it that stay.
+use Rattle.std.specs.Prelude.{◌≡◌, ℕ, ◌+◌, Bool, List, ◌++◌, length, take, drop, nat_le, ◌&&◌, Result, Ok, Err, if◌then◌else◌}
+use Rattle.exif_base.specs.Bytes.{Reading, number_at}
+use Rattle.exif_scrub.specs.declared.tiff.fault.Fault.{Fault}
+use Rattle.exif_scrub.specs.declared.tiff.fault.Fault.TheVariants.{Broken}
+
+-- a step, and then the next, unless it is refused
+infixl 10 ◌>>=◌
+abbrev pub ◌>>=◌ : {A B : Type 0} → Result A Fault → (A → Result B Fault) → Result B Fault
+(Ok x) >>= f = f x
+(Err e) >>= f = Err e
+
+-- whether so many bytes from an offset on are in a list
+abbrev pub is_within : List ℕ → ℕ → ℕ → Bool
+is_within bytes at len = nat_le (at + len) (length bytes)
+
+-- the number in so many bytes at an offset, if they are in the file
+abbrev pub number_in : Reading → ℕ → List ℕ → ℕ → Result ℕ Fault
+number_in number width bytes at =
+    if is_within bytes at width then Ok (number_at number width bytes at) else Err Broken
+
+-- the new file with so many bytes of the old one, from an offset to another one
+abbrev pub kept_bytes : List ℕ → ℕ → ℕ → ℕ → List ℕ → Result (List ℕ) Fault
+kept_bytes old from len to new =
+    if is_within old from len && is_within new to len
+    then Ok (take to new ++ (take len (drop from old) ++ drop (to + len) new)) else Err Broken
+
+-- a call made the new file so, or was refused so
+abbrev pub Puts : {A : Type 0} → Result A Fault → List ℕ → Result (List ℕ) Fault → Type 0
+Puts (Ok x) new made = made ≡ Ok new
+Puts (Err e) new made = made ≡ Err e

@@ -1,0 +1,13 @@
+pub mod HeifBlanks
+pub mod HeifScrubbing
+pub mod HeifPromises
+pub mod HeifExamples
+pub mod Tags
+pub mod Keeping
+pub mod Entries
+pub mod Pictures
+pub mod Directories
+pub mod TiffScrubbing
+pub mod TiffExamples
+pub mod HeifFaultTexts
+pub mod TiffFaultTexts

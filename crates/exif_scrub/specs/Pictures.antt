@@ -1,0 +1,54 @@
+-- Strips, tiles and JPEG streams (TIFF 6.0, sections 3, 15 and 22).
+use Rattle.std.specs.Prelude.{ℕ, zero, suc, ◌+◌, ◌==◌, List, Option, Some, None, Result, Ok, Err, if◌then◌else◌}
+use Rattle.exif_base.specs.Bytes.{Reading}
+use Rattle.exif_scrub.specs.Entries.{count_of, entry_named, item_at}
+use Rattle.exif_scrub.specs.Keeping.{◌>>=◌, kept_bytes}
+use Rattle.exif_scrub.specs.declared.tiff.fault.Fault.{Fault}
+use Rattle.exif_scrub.specs.declared.tiff.fault.Fault.TheVariants.{Broken}
+
+-- the new file with the strip of an index, whose offset and length two entries have
+abbrev pub strip_kept : Reading → List ℕ → ℕ → ℕ → ℕ → List ℕ → Result (List ℕ) Fault
+strip_kept number old offsets lengths index new = do
+  at ← item_at number old offsets index
+  len ← item_at number old lengths index
+  kept_bytes old at len at new
+
+-- the same with so many strips, from an index on
+abbrev pub strips_from : Reading → List ℕ → ℕ → ℕ → ℕ → ℕ → List ℕ → Result (List ℕ) Fault
+strips_from number old offsets lengths zero index new = Ok new
+strips_from number old offsets lengths (suc left) index new =
+    strip_kept number old offsets lengths index new
+    >>= strips_from number old offsets lengths left (index + 1)
+
+-- the same with all strips of two entries, which have as many values
+abbrev pub strips_counted : Reading → List ℕ → ℕ → ℕ → List ℕ → Result (List ℕ) Fault
+strips_counted number old offsets lengths new = do
+  count ← count_of number old offsets
+  other ← count_of number old lengths
+  if other == count then strips_from number old offsets lengths count 0 new else Err Broken
+
+-- the same with an entry of lengths, if there is one
+abbrev pub strips_of : Reading → List ℕ → ℕ → Option ℕ → List ℕ → Result (List ℕ) Fault
+strips_of number old offsets None new = Err Broken
+strips_of number old offsets (Some lengths) new = strips_counted number old offsets lengths new
+
+-- the same with an entry of offsets, if there is one, among so many entries
+abbrev pub strips_named : Reading → List ℕ → ℕ → ℕ → ℕ → Option ℕ → List ℕ
+    → Result (List ℕ) Fault
+strips_named number old count first tag None new = Ok new
+strips_named number old count first tag (Some offsets) new =
+    entry_named number old tag count first
+    >>= λ lengths. strips_of number old offsets lengths new
+
+-- the new file with what two tags name by offsets and lengths
+abbrev pub strips_kept : Reading → List ℕ → ℕ → ℕ → ℕ → ℕ → List ℕ → Result (List ℕ) Fault
+strips_kept number old count first tag other new =
+    entry_named number old tag count first
+    >>= λ offsets. strips_named number old count first other offsets new
+
+-- the new file with the strips, the tiles and the JPEG stream of a directory
+abbrev pub picture_kept : Reading → List ℕ → ℕ → ℕ → List ℕ → Result (List ℕ) Fault
+picture_kept number old count first new =
+    strips_kept number old count first 273 279 new
+    >>= λ a. strips_kept number old count first 324 325 a
+    >>= λ b. strips_kept number old count first 513 514 b

@@ -1,0 +1,18 @@
+//! TIFF files without their metadata: the picture stays where it is, and all else becomes zero.
+//!
+//! [`scrub`] keeps the directories with the tags that describe their pictures, the values of these
+//! tags, and the strips and tiles. Every other byte becomes zero; none moves but entries, which
+//! close up.
+
+mod bytes;
+mod directory;
+mod entry;
+mod fault;
+mod file;
+pub mod laws;
+mod pass;
+mod picture;
+mod tags;
+
+pub use fault::Fault;
+pub use file::scrub;

@@ -1,0 +1,63 @@
+//! Numbers of a file, and bytes of it that stay.
+
+ghost use Rattle.std.specs.Prelude.{◌≡◌, ◌≤◌, ◌+◌, length, true};
+ghost use Rattle.exif_base.specs.Orders.{number_of};
+ghost use Rattle.exif_scrub.specs.Keeping.{Puts, is_within, kept_bytes, number_in};
+
+use crate::tiff::fault::Fault;
+use exif_base::{BigEndian, Endian, LittleEndian, Order};
+
+/// The file as it was, and the order of its numbers.
+#[derive(Clone, Copy)]
+pub struct Old<'a> {
+    pub order: Order,
+    pub bytes: &'a [u8],
+}
+
+// Whether so many bytes from an offset on are in these.
+fn is_within(bytes: &[u8], at: u64, len: u64) -> bool
+    ensures value { result ≡ is_within bytes.now at len }
+    ensures within { result ≡ true → at + len ≤ length bytes.now }
+{
+    at.saturating_add(len) <= bytes.len() as u64
+}
+
+impl<'a> Old<'a> {
+    /// The 16-bit number at an offset.
+    pub fn short(self, at: u64) -> Result<u16, Fault>
+        ensures { result ≡ number_in (number_of self.entry.order) 2 self.entry.bytes.now at }
+    {
+        if !is_within(self.bytes, at, 2) {
+            return Err(Fault::Broken);
+        }
+        Ok(match self.order {
+            Order::Big => BigEndian::loadu16(self.bytes, at as usize),
+            Order::Little => LittleEndian::loadu16(self.bytes, at as usize),
+        })
+    }
+
+    /// The 32-bit number at an offset.
+    pub fn long(self, at: u64) -> Result<u32, Fault>
+        ensures { result ≡ number_in (number_of self.entry.order) 4 self.entry.bytes.now at }
+    {
+        if !is_within(self.bytes, at, 4) {
+            return Err(Fault::Broken);
+        }
+        Ok(match self.order {
+            Order::Big => BigEndian::loadu32(self.bytes, at as usize),
+            Order::Little => LittleEndian::loadu32(self.bytes, at as usize),
+        })
+    }
+}
+
+/// Puts so many bytes of the old file into the new one.
+pub fn keep(old: &[u8], from: u64, len: u64, new: &mut [u8], to: u64) -> Result<(), Fault>
+    ensures { Puts result new.new (kept_bytes old.now from len to new.old) }
+{
+    if !is_within(old, from, len) || !is_within(new, to, len) {
+        return Err(Fault::Broken);
+    }
+    let (from, to, len) = (from as usize, to as usize, len as usize);
+    new[to..to + len].copy_from_slice(&old[from..from + len]);
+    Ok(())
+}

@@ -1,0 +1,67 @@
+//! Strips and tiles, and the picture of a directory.
+
+ghost use Rattle.std.specs.Prelude.{◌≡◌, ◌<◌, ◌^◌};
+ghost use Rattle.exif_base.specs.Orders.{number_of};
+ghost use Rattle.exif_scrub.specs.Keeping.{Puts};
+ghost use Rattle.exif_scrub.specs.Pictures.{picture_kept, strips_from, strips_kept};
+
+use crate::tiff::bytes::{Old, keep};
+use crate::tiff::entry::{count_of, entry_named, item_at};
+use crate::tiff::fault::Fault;
+
+// Keeps so many strips, whose offsets and lengths two entries have.
+fn keep_strips(
+    old: Old<'_>,
+    count: u32,
+    offsets: u64,
+    lengths: u64,
+    new: &mut [u8],
+) -> Result<(), Fault>
+    requires offsets { offsets < 2 ^ 62 }
+    requires lengths { lengths < 2 ^ 62 }
+    ensures { Puts result new.new (strips_from (number_of old.entry.order)
+        old.entry.bytes.now offsets lengths count 0 new.old) }
+{
+    for index in 0..count {
+        let at = u64::from(item_at(old, offsets, index)?);
+        let len = u64::from(item_at(old, lengths, index)?);
+        keep(old.bytes, at, len, new, at)?;
+    }
+    Ok(())
+}
+
+// Keeps what two tags of a directory name by offsets and lengths, if it has them.
+fn keep_named(
+    old: Old<'_>,
+    count: u16,
+    first: u64,
+    tags: (u16, u16),
+    new: &mut [u8],
+) -> Result<(), Fault>
+    requires { first < 2 ^ 61 }
+    ensures { Puts result new.new (strips_kept (number_of old.entry.order)
+        old.entry.bytes.now count first tags.0 tags.1 new.old) }
+{
+    let Some(offsets) = entry_named(old, count, first, tags.0)? else {
+        return Ok(());
+    };
+    let Some(lengths) = entry_named(old, count, first, tags.1)? else {
+        return Err(Fault::Broken);
+    };
+    let strips = count_of(old, offsets)?;
+    if count_of(old, lengths)? != strips {
+        return Err(Fault::Broken);
+    }
+    keep_strips(old, strips, offsets, lengths, new)
+}
+
+/// Keeps the strips, the tiles and the JPEG stream of a directory with so many entries.
+pub fn keep_picture(old: Old<'_>, count: u16, first: u64, new: &mut [u8]) -> Result<(), Fault>
+    requires { first < 2 ^ 61 }
+    ensures { Puts result new.new
+        (picture_kept (number_of old.entry.order) old.entry.bytes.now count first new.old) }
+{
+    keep_named(old, count, first, (273, 279), new)?;
+    keep_named(old, count, first, (324, 325), new)?;
+    keep_named(old, count, first, (513, 514), new)
+}

@@ -1,7 +1,0 @@
-use Rattle.std.proofs.Common.{◌≡◌, take}
-use Rattle.exif_scrub_heif.specs.Scrubbing.{left_parts}
-use Rattle.exif_scrub_heif.proofs.settled.left_parts.Given as goal
-
--- the parts so far
-abbrev pub invariant-loop-span : goal.invariant-loop-span
-invariant-loop-span l = l.left.items ≡ left_parts l.judged (take l.span-index l.spans)

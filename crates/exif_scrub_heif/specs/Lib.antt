@@ -1,4 +1,0 @@
-pub mod Blanks
-pub mod Scrubbing
-pub mod Promises
-pub mod Examples

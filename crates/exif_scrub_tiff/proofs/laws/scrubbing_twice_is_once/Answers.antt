@@ -1,5 +1,0 @@
-use Rattle.exif_scrub_tiff.proofs.Twice.{twice}
-use Rattle.exif_scrub_tiff.proofs.laws.scrubbing_twice_is_once.Goals as goal
-
-pub returns : goal.returns
-returns c = twice

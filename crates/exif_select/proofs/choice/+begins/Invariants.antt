@@ -1,6 +1,0 @@
-use Rattle.std.proofs.Common.{length}
-use Rattle.exif_select.proofs.choice.+begins.Given as goal
-
--- each call looks behind one byte
-abbrev pub decreases-begins : goal.decreases-begins
-decreases-begins l = length l.text.now

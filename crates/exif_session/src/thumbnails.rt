@@ -1,0 +1,120 @@
+//! The thumbnail of a picture, where its file has it.
+
+use crate::inputs::{Input, open};
+use exif::{Counted, Error, Exif, Seekable};
+use exif_change::{ENTRY_LIMIT, thumbnail};
+use exif_formats::raw::cr3::find_thumbnail;
+use exif_formats::{Options, Picture, PictureFormat, read_picture};
+use exif_report::found_of;
+use exif_thumbnails::{Place, Thumbnail, place_of, read_place, read_thumbnail_coding};
+use std::alloc::Global;
+use std::io::{Seek, SeekFrom};
+
+/// The thumbnail of a picture, if it has one: that in its Exif data, which is read from the file
+/// where it is behind what was held of them, and that in a CR3 file's own box. Of one that is an
+/// item of a HEIF file, its coding is answered. Faults are skipped.
+pub fn thumbnail_of(rt: &HostRuntime, path: &str) -> Result<Option<Thumbnail>, Error> {
+    let alloc = rt.alloc();
+    let input = open(rt, path)?;
+    let picture = picture_in(alloc, &input)?;
+    match picture.format {
+        Some(PictureFormat::Cr3) => Ok(in_cr3(alloc, &input)?.map(Thumbnail::Jpeg)),
+        Some(PictureFormat::Tiff | PictureFormat::Orf | PictureFormat::Rw2) => {
+            let (exif, _faults) = found_of(alloc, picture.answer)?;
+            in_tiff(alloc, &input, &exif)
+        }
+        Some(PictureFormat::Heif) => in_heif(alloc, &input, picture.answer),
+        _ => {
+            let (exif, _faults) = found_of(alloc, picture.answer)?;
+            in_data(alloc, &exif)
+        }
+    }
+}
+
+// What is read of a file.
+fn picture_in(alloc: Global, input: &Input) -> Result<Picture, Error> {
+    let options = Options {
+        lenient: true,
+        limit: Some(ENTRY_LIMIT),
+    };
+    match input {
+        Input::Bytes(bytes) => { read_picture(options, alloc, &mut Counted::new(bytes.as_slice())) }
+        Input::File(file) => read_picture(options, alloc, &mut Seekable::new(file)),
+    }
+}
+
+// The thumbnail in the Exif data that are held.
+fn in_data(alloc: Global, exif: &Exif) -> Result<Option<Thumbnail>, Error> {
+    match thumbnail(exif) {
+        Some(jpeg) => Ok(Some(Thumbnail::Jpeg(Vec::from_slice(alloc, jpeg)?))),
+        None => Ok(None),
+    }
+}
+
+// The thumbnail of a file that is TIFF data, of which no more than a prefix may be held.
+fn in_tiff(alloc: Global, input: &Input, exif: &Exif) -> Result<Option<Thumbnail>, Error> {
+    if let Some(held) = in_data(alloc, exif)? {
+        return Ok(Some(held));
+    }
+    match place_of(exif) {
+        Some(place) => Ok(Some(at_place(alloc, input, place)?)),
+        None => Ok(None),
+    }
+}
+
+// The thumbnail of a HEIF file: that in its Exif data, or else an item.
+fn in_heif(
+    alloc: Global,
+    input: &Input,
+    answer: Result<Exif, Error>,
+) -> Result<Option<Thumbnail>, Error> {
+    match found_of(alloc, answer) {
+        Ok((exif, _faults)) => {
+            if let Some(held) = in_data(alloc, &exif)? {
+                return Ok(Some(held));
+            }
+        }
+        Err(Error::NotFound(_)) => {}
+        Err(error) => return Err(error),
+    }
+    item_in(alloc, input)
+}
+
+// The thumbnail of a HEIF file that is an item.
+fn item_in(alloc: Global, input: &Input) -> Result<Option<Thumbnail>, Error> {
+    let coding = match input {
+        Input::Bytes(bytes) => {
+            read_thumbnail_coding(alloc, &mut Counted::new(bytes.as_slice()))?
+        }
+        Input::File(file) => {
+            let mut again = file;
+            again.seek(SeekFrom::Start(0))?;
+            read_thumbnail_coding(alloc, &mut Seekable::new(again))?
+        }
+    };
+    Ok(coding.map(Thumbnail::Item))
+}
+
+// What a file has at a place.
+fn at_place(alloc: Global, input: &Input, place: Place) -> Result<Thumbnail, Error> {
+    match input {
+        Input::Bytes(bytes) => read_place(alloc, &mut Counted::new(bytes.as_slice()), place),
+        Input::File(file) => {
+            let mut again = file;
+            again.seek(SeekFrom::Start(0))?;
+            read_place(alloc, &mut Seekable::new(again), place)
+        }
+    }
+}
+
+// The thumbnail of a CR3 file.
+fn in_cr3(alloc: Global, input: &Input) -> Result<Option<Vec<u8>>, Error> {
+    match input {
+        Input::Bytes(bytes) => find_thumbnail(alloc, &mut Counted::new(bytes.as_slice())),
+        Input::File(file) => {
+            let mut again = file;
+            again.seek(SeekFrom::Start(0))?;
+            find_thumbnail(alloc, &mut Seekable::new(again))
+        }
+    }
+}

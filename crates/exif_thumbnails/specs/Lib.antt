@@ -1,0 +1,3 @@
+pub mod Heif
+pub mod HeifExamples
+pub mod Places

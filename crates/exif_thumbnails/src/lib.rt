@@ -1,0 +1,15 @@
+//! The thumbnail of a picture, of any format, as JPEG data.
+//!
+//! [`place_of`] answers where the Exif data say that it is, and [`read_place`] reads it from the
+//! file where it is behind what was held. A CR3 file has its own
+//! ([`find_thumbnail`](exif_formats::raw::cr3::find_thumbnail)). That of a HEIF or AVIF file may be
+//! coded otherwise ([`thumbnail_coding`]).
+#![tactic(auto)]
+
+mod heif;
+mod place;
+mod reading;
+
+pub use heif::{Coding, HEIF_PREFIX_LEN, read_thumbnail_coding, thumbnail_coding};
+pub use place::{MAX_THUMBNAIL_LEN, Place, place_of};
+pub use reading::{Thumbnail, read_place};

@@ -1,0 +1,36 @@
+//! Where the Exif data say that a thumbnail is.
+
+ghost use Rattle.std.specs.Prelude.{◌≡◌};
+ghost use Rattle.exif_thumbnails.specs.Places.{number_named, place_in};
+
+use exif_types::{Exif, In, Tag};
+
+/// How many bytes a thumbnail may have at most: 1 MiB. A longer one is not read.
+pub const MAX_THUMBNAIL_LEN: u32 = 1_048_576;
+
+/// Where JPEG data are, in the data in which offsets count.
+#[derive(Clone, Copy, Debug)]
+pub struct Place {
+    /// The offset of their first byte.
+    pub offset: u32,
+    /// How many bytes they have.
+    pub len: u32,
+}
+
+/// Where the thumbnail is (Exif 2.32, section 4.5.8): what the two fields of the second directory
+/// say.
+pub fn place_of(exif: &Exif) -> Option<Place>
+    ensures { result ≡ place_in exif.now }
+{
+    let offset = number_named(exif, Tag::JPEGInterchangeFormat)?;
+    let len = number_named(exif, Tag::JPEGInterchangeFormatLength)?;
+    Some(Place { offset, len })
+}
+
+// The number that a field of the second directory holds.
+fn number_named(exif: &Exif, tag: Tag) -> Option<u32>
+    ensures { result ≡ number_named exif.now.fields tag }
+{
+    let field = exif.get_field(tag, In::THUMBNAIL)?;
+    field.value.get_uint(0)
+}

@@ -1,6 +1,0 @@
-use Rattle.std.proofs.Common.{◌≡◌, ◌+◌, drop}
-use Rattle.exif_track.specs.Elements.{until}
-use Rattle.exif_track.proofs.element.until.Given as goal
-
-abbrev pub invariant-loop-at : goal.invariant-loop-at
-invariant-loop-at l = until l.mark l.text ≡ l.at + until l.mark (drop l.at l.text)

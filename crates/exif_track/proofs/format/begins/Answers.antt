@@ -1,6 +1,0 @@
-use Rattle.std.proofs.Common.{◌∙◌}
-use Rattle.exif_track.proofs.FormatSteps.{begins_is}
-use Rattle.exif_track.proofs.format.begins.Goals as goal
-
-pub returns : goal.returns
-returns c = c.starts_with.ensures.value ∙ begins_is c.args.word.now c.args.bytes.now

@@ -1,9 +1,0 @@
-use Rattle.std.proofs.Common.{◌≡◌, drop}
-use Rattle.exif_xmp_icc.specs.Profiles.{assembly_view, begun, with_parts}
-use Rattle.exif_xmp_icc.proofs.found.assembled.Given as goal
-
--- the parts that are left go on with what was read
-abbrev pub invariant-loop-part : goal.invariant-loop-part
-invariant-loop-part l =
-    with_parts (assembly_view l.assembly) (drop l.part-index l.parts) l.file
-    ≡ with_parts begun l.parts l.fn.file

@@ -1,8 +1,0 @@
-use Rattle.std.proofs.Common.{◌≡◌, drop}
-use Rattle.exif_xmp_icc.specs.Parts.{first_data}
-use Rattle.exif_xmp_icc.proofs.parts.first_data.Given as goal
-
--- no part that was passed holds such a block
-abbrev pub invariant-loop-part : goal.invariant-loop-part
-invariant-loop-part l =
-    first_data l.block (drop l.part-index l.parts) l.file ≡ first_data l.block l.fn.parts l.fn.file

@@ -1,9 +1,0 @@
-pub mod Parts
-pub mod Packets
-pub mod Profiles
-pub mod JpegSegments
-pub mod Zlib
-pub mod PngChunks
-pub mod WebpChunks
-pub mod Put
-pub mod Examples
