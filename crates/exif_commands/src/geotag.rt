@@ -5,7 +5,7 @@ use exif_change::{Assignment, Refusal};
 use exif_decisions::Outcome;
 use exif_files::{Failure, HostFiles, Status, change};
 use exif_geotag::{
-    Fix, Moment, Relocation, TimeStamp, Track, fix_of_picture, moment_at, stale_tags,
+    DateStamp, Fix, Moment, Relocation, TimeStamp, Track, fix_of_picture, moment_at, stale_tags,
     time_of_picture,
 };
 use exif_session::{Geotagging, NotChanged, Plan, Session, Stop, exif_of, outcome_of, read_file};
@@ -143,7 +143,7 @@ fn relocate_file<W: Sink, E: Sink>(
     key: &str,
 ) -> Result<Outcome, Stop> {
     let alloc = session.rt.alloc();
-    let (fix, day, time) = (spot.fix, spot.moment.day, TimeStamp(spot.moment.clock));
+    let (fix, day, time) = (spot.fix, DateStamp(spot.moment), TimeStamp(spot.moment));
     let location = format!(in alloc; "Location={fix}")?;
     let day = format!(in alloc; "{day}")?;
     let time = format!(in alloc; "{time}")?;

@@ -51,22 +51,20 @@ pub fn is_day(date: Date) -> bool
 }
 
 /// Whether a clock has a time.
-pub(crate) fn is_time(time: TimeOfDay) -> bool
+pub fn is_time(time: TimeOfDay) -> bool
     ensures { result ≡ is_time time }
 {
     time.hour < 24 && time.minute < 60 && time.second < 60
 }
 
-// The days from the year 0 to a year.
+// The days from the year 0 to a year: 365 for each, and one for each leap year.
+#[tactic(auto, using(crate::proofs::CalendarSteps::formula_is))]
 fn days_before_year(year: u16) -> u64
     ensures days { result ≡ days_before_year year }
     ensures few { result ≤ 366 * year }
 {
-    let mut days = 0;
-    for past in 0..year {
-        days += days_in_year(past);
-    }
-    days
+    let year = u64::from(year);
+    365 * year + (year + 3) / 4 - (year + 99) / 100 + (year + 399) / 400
 }
 
 // The days of the first months of a year.
@@ -93,7 +91,7 @@ fn day_number(date: Date) -> u64
 }
 
 /// The seconds from the beginning of the year 0 to a time of a day.
-pub(crate) fn seconds_of(date: Date, time: TimeOfDay) -> u64
+pub fn seconds_of(date: Date, time: TimeOfDay) -> u64
     requires { 0 < date.month }
     ensures seconds { result ≡ seconds_of date time }
     ensures small { result < 2 ^ 42 }
@@ -155,8 +153,9 @@ fn time_at(second: u64) -> TimeOfDay
     }
 }
 
-/// The day and the time after so many seconds from the beginning of the year 0.
-pub(crate) fn moment_at(seconds: u64) -> Option<(Date, TimeOfDay)>
+/// The day and the time after so many seconds from the beginning of the year 0; `None` from the
+/// year 10000 on.
+pub fn moment_at(seconds: u64) -> Option<(Date, TimeOfDay)>
     ensures { result ≡ moment_at seconds }
 {
     let date = date_at(seconds / DAY)?;

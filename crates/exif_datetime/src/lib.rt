@@ -8,7 +8,7 @@ pub mod laws;
 mod numbers;
 mod shift;
 
-pub use calendar::is_day;
+pub use calendar::{is_day, is_time, moment_at, seconds_of};
 pub use datetime::DateTime;
 pub use numbers::{cut, number_below};
 pub use shift::{ClockShift, Unmoved, moved_value, stated};

@@ -1,6 +1,4 @@
 pub mod AtSteps
-pub mod CalendarSteps
-pub mod DaySteps
 pub mod FixSteps
 pub mod FormatSteps
 pub mod SortSteps

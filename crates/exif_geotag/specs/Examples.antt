@@ -1,28 +1,29 @@
 -- Worked examples, with values by hand.
 use Rattle.std.specs.Prelude.{◌≡◌, ℕ, ◌+◌, ◌-◌, ◌*◌, Bool, true, false, List, [], ◌∷◌, ◌++◌, codes, Option, Some, None, Result, Ok, Err, refl}
 use Rattle.std.specs.Fmt.{digits}
+use Rattle.exif_text.specs.Plain.{zero_filled as filled}
+use Rattle.exif_text.specs.declared.date.TimeOfDay.{TimeOfDay}
+use Rattle.exif_datetime.specs.Calendar.{days_before_month, days_before_year, month_from, year_from}
 use Rattle.exif_locations.specs.declared.xmp.fault.Fault.TheVariants.{Malformed, Cut}
 use Rattle.exif_locations.specs.XmpNames.{is_location, is_word}
 use Rattle.exif_locations.specs.XmpTokens.{attribute_at, closing_at, content_at, declared_at, markup_at, opening_at, tag_at}
 use Rattle.exif_geotag.specs.declared.error.TrackError.{TrackError}
 use Rattle.exif_geotag.specs.declared.error.TrackError.TheVariants.{Xml, Other, NotGpx, Empty}
 use Rattle.exif_geotag.specs.declared.format.OtherFormat.TheVariants.{Kml, Zip, Tcx, Nmea, Fit}
-use Rattle.exif_geotag.specs.declared.moment.Clock.{Clock}
 use Rattle.exif_geotag.specs.declared.moment.Moment.{Moment}
 use Rattle.exif_geotag.specs.declared.point.Fix.{Fix}
 use Rattle.exif_geotag.specs.declared.point.Point.{Point}
 use Rattle.exif_geotag.specs.Between.{between, fix_at, longitude_between}
-use Rattle.exif_geotag.specs.Calendar.{day_number, days_before_month, days_before_year}
 use Rattle.exif_geotag.specs.Elements.{element_at}
 use Rattle.exif_geotag.specs.FixTexts.{fix_text, zero_filled}
 use Rattle.exif_geotag.specs.Formats.{other_format}
 use Rattle.exif_geotag.specs.Gaps.{gap_in}
-use Rattle.exif_geotag.specs.Moments.{moment_at, moment_text, month_from, year_from}
+use Rattle.exif_geotag.specs.Moments.{moment_at, moment_text}
 use Rattle.exif_geotag.specs.Numbers.{negative_of, number_of, positive_of}
 use Rattle.exif_geotag.specs.States.{enter, leave, with_attribute, with_text}
 use Rattle.exif_geotag.specs.Steps.{content_step, step_at, tag_step}
 use Rattle.exif_geotag.specs.Texts.{trimmed}
-use Rattle.exif_geotag.specs.Times.{clock_of, date_of, ended, exif_time_of, milliseconds_of, time_of, zone_of}
+use Rattle.exif_geotag.specs.Times.{ended, exif_time_of, milliseconds_of, time_of, zone_of}
 use Rattle.exif_geotag.specs.Walks.{TrackView, points_from, track_of}
 
 -- ---- numbers
@@ -93,63 +94,49 @@ pub a_gap_with_a_unit : gap_in (codes "5m") ≡ None
 unfolding gap_in
 a_gap_with_a_unit = refl
 
--- ---- the calendar
-
-pub the_year_1 : day_number 1 1 1 ≡ Some 366
-unfolding days_before_month days_before_year
-the_year_1 = refl
-
-pub a_leap_day : day_number 4 2 29 ≡ Some 1520
-unfolding days_before_month days_before_year
-a_leap_day = refl
-
-pub no_leap_day : day_number 1900 2 29 ≡ None
-unfolding days_before_month days_before_year
-no_leap_day = refl
-
 -- ---- times: 719528 days are before 1970-01-01
 
 pub the_epoch : time_of (codes "1970-01-01T00:00:00Z") ≡ Some (719528 * 86400000)
-unfolding time_of ended milliseconds_of date_of clock_of zone_of days_before_month days_before_year
+unfolding time_of ended milliseconds_of zone_of days_before_month days_before_year
 the_epoch = refl
 
 pub a_fraction : time_of (codes "1970-01-02t01:02:03.4567z") ≡ Some (719529 * 86400000 + 3723456)
-unfolding time_of ended milliseconds_of date_of clock_of zone_of days_before_month days_before_year
+unfolding time_of ended milliseconds_of zone_of days_before_month days_before_year
 a_fraction = refl
 
 pub east_of_greenwich : time_of (codes "1970-01-01 02:00:01+02:00")
     ≡ Some (719528 * 86400000 + 1000)
-unfolding time_of ended milliseconds_of date_of clock_of zone_of days_before_month days_before_year
+unfolding time_of ended milliseconds_of zone_of days_before_month days_before_year
 east_of_greenwich = refl
 
 pub west_of_greenwich : time_of (codes "1969-12-31T22:00:00.5-02:30")
     ≡ Some (719528 * 86400000 + 1800500)
-unfolding time_of ended milliseconds_of date_of clock_of zone_of days_before_month days_before_year
+unfolding time_of ended milliseconds_of zone_of days_before_month days_before_year
 west_of_greenwich = refl
 
 pub without_a_zone : time_of (codes "1970-01-01T00:00:00") ≡ Some (719528 * 86400000)
-unfolding time_of ended milliseconds_of date_of clock_of zone_of days_before_month days_before_year
+unfolding time_of ended milliseconds_of zone_of days_before_month days_before_year
 without_a_zone = refl
 
 pub no_such_day : time_of (codes "1970-02-29T00:00:00Z") ≡ None
-unfolding time_of ended milliseconds_of date_of clock_of zone_of days_before_month days_before_year
+unfolding time_of ended milliseconds_of zone_of days_before_month days_before_year
 no_such_day = refl
 
 pub a_point_without_digits : time_of (codes "1970-01-01T00:00:00.Z") ≡ None
-unfolding time_of ended milliseconds_of date_of clock_of zone_of days_before_month days_before_year
+unfolding time_of ended milliseconds_of zone_of days_before_month days_before_year
 a_point_without_digits = refl
 
 pub a_date_alone : time_of (codes "1970-01-01") ≡ None
-unfolding time_of ended milliseconds_of date_of clock_of zone_of days_before_month days_before_year
+unfolding time_of ended milliseconds_of zone_of days_before_month days_before_year
 a_date_alone = refl
 
 pub a_date_of_exif : exif_time_of (codes "1970:01:01 02:00:01") (codes "25 ") (codes "+02:00")
     ≡ Some (719528 * 86400000 + 1250)
-unfolding exif_time_of milliseconds_of date_of clock_of zone_of days_before_month days_before_year
+unfolding exif_time_of milliseconds_of zone_of days_before_month days_before_year
 a_date_of_exif = refl
 
 pub no_date_of_exif : exif_time_of (codes "    :  :     :  :  ") (codes "") (codes "") ≡ None
-unfolding exif_time_of milliseconds_of date_of clock_of zone_of days_before_month days_before_year
+unfolding exif_time_of milliseconds_of zone_of days_before_month days_before_year
 no_date_of_exif = refl
 
 -- ---- white space
@@ -261,7 +248,7 @@ pub two_of_three_points : track_of a_file ≡ Ok (record {
   skipped = 1;
   cut_off = false;
 })
-unfolding points_from step_at content_step tag_step enter leave with_text with_attribute element_at tag_at attribute_at content_at markup_at opening_at closing_at declared_at is_location is_word negative_of positive_of time_of ended milliseconds_of date_of clock_of zone_of days_before_month days_before_year
+unfolding points_from step_at content_step tag_step enter leave with_text with_attribute element_at tag_at attribute_at content_at markup_at opening_at closing_at declared_at is_location is_word negative_of positive_of time_of ended milliseconds_of zone_of days_before_month days_before_year
 two_of_three_points = refl
 
 pub no_gpx : track_of (codes "<html></html>") ≡ Err NotGpx
@@ -294,40 +281,40 @@ the_point cut_off = Ok (record {
 })
 
 pub a_whole_file : track_of (a_point_and (codes "</gpx>")) ≡ the_point false
-unfolding points_from step_at content_step tag_step enter leave with_text with_attribute element_at tag_at attribute_at content_at markup_at opening_at closing_at declared_at is_location is_word negative_of positive_of time_of ended milliseconds_of date_of clock_of zone_of days_before_month days_before_year
+unfolding points_from step_at content_step tag_step enter leave with_text with_attribute element_at tag_at attribute_at content_at markup_at opening_at closing_at declared_at is_location is_word negative_of positive_of time_of ended milliseconds_of zone_of days_before_month days_before_year
 a_whole_file = refl
 
 pub cut_off_in_a_tag : track_of (a_point_and (codes "<trkpt la")) ≡ the_point true
-unfolding points_from step_at content_step tag_step enter leave with_text with_attribute element_at tag_at attribute_at content_at markup_at opening_at closing_at declared_at is_location is_word negative_of positive_of time_of ended milliseconds_of date_of clock_of zone_of days_before_month days_before_year
+unfolding points_from step_at content_step tag_step enter leave with_text with_attribute element_at tag_at attribute_at content_at markup_at opening_at closing_at declared_at is_location is_word negative_of positive_of time_of ended milliseconds_of zone_of days_before_month days_before_year
 cut_off_in_a_tag = refl
 
 pub cut_off_in_a_value : track_of (a_point_and (codes "<trkpt lat='3' lon='4"))
     ≡ the_point true
-unfolding points_from step_at content_step tag_step enter leave with_text with_attribute element_at tag_at attribute_at content_at markup_at opening_at closing_at declared_at is_location is_word negative_of positive_of time_of ended milliseconds_of date_of clock_of zone_of days_before_month days_before_year
+unfolding points_from step_at content_step tag_step enter leave with_text with_attribute element_at tag_at attribute_at content_at markup_at opening_at closing_at declared_at is_location is_word negative_of positive_of time_of ended milliseconds_of zone_of days_before_month days_before_year
 cut_off_in_a_value = refl
 
 pub cut_off_in_a_time : track_of (a_point_and (codes "<trkpt lat='3' lon='4'><time>1970-01"))
     ≡ the_point true
-unfolding points_from step_at content_step tag_step enter leave with_text with_attribute element_at tag_at attribute_at content_at markup_at opening_at closing_at declared_at is_location is_word negative_of positive_of time_of ended milliseconds_of date_of clock_of zone_of days_before_month days_before_year
+unfolding points_from step_at content_step tag_step enter leave with_text with_attribute element_at tag_at attribute_at content_at markup_at opening_at closing_at declared_at is_location is_word negative_of positive_of time_of ended milliseconds_of zone_of days_before_month days_before_year
 cut_off_in_a_time = refl
 
 pub cut_off_in_a_comment : track_of (a_point_and (codes "<!-- 2 > 1")) ≡ the_point true
-unfolding points_from step_at content_step tag_step enter leave with_text with_attribute element_at tag_at attribute_at content_at markup_at opening_at closing_at declared_at is_location is_word negative_of positive_of time_of ended milliseconds_of date_of clock_of zone_of days_before_month days_before_year
+unfolding points_from step_at content_step tag_step enter leave with_text with_attribute element_at tag_at attribute_at content_at markup_at opening_at closing_at declared_at is_location is_word negative_of positive_of time_of ended milliseconds_of zone_of days_before_month days_before_year
 cut_off_in_a_comment = refl
 
 pub not_well_formed : track_of (a_point_and (codes "<trkpt lat=3></trkpt></gpx>"))
     ≡ Err (Xml Malformed)
-unfolding points_from step_at content_step tag_step enter leave with_text with_attribute element_at tag_at attribute_at content_at markup_at opening_at closing_at declared_at is_location is_word negative_of positive_of time_of ended milliseconds_of date_of clock_of zone_of days_before_month days_before_year
+unfolding points_from step_at content_step tag_step enter leave with_text with_attribute element_at tag_at attribute_at content_at markup_at opening_at closing_at declared_at is_location is_word negative_of positive_of time_of ended milliseconds_of zone_of days_before_month days_before_year
 not_well_formed = refl
 
 -- ---- other formats
 
 pub google_earth : track_of (codes "<?xml version='1.0'?><kml></kml>") ≡ Err (Other Kml)
-unfolding points_from step_at content_step tag_step enter leave with_text with_attribute element_at tag_at attribute_at content_at markup_at opening_at closing_at declared_at is_location is_word negative_of positive_of time_of ended milliseconds_of date_of clock_of zone_of days_before_month days_before_year
+unfolding points_from step_at content_step tag_step enter leave with_text with_attribute element_at tag_at attribute_at content_at markup_at opening_at closing_at declared_at is_location is_word negative_of positive_of time_of ended milliseconds_of zone_of days_before_month days_before_year
 google_earth = refl
 
 pub training_center : track_of (codes "<TrainingCenterDatabase>") ≡ Err (Other Tcx)
-unfolding points_from step_at content_step tag_step enter leave with_text with_attribute element_at tag_at attribute_at content_at markup_at opening_at closing_at declared_at is_location is_word negative_of positive_of time_of ended milliseconds_of date_of clock_of zone_of days_before_month days_before_year
+unfolding points_from step_at content_step tag_step enter leave with_text with_attribute element_at tag_at attribute_at content_at markup_at opening_at closing_at declared_at is_location is_word negative_of positive_of time_of ended milliseconds_of zone_of days_before_month days_before_year
 training_center = refl
 
 pub sentences : track_of (codes "@Sony\n$GPGGA,1") ≡ Err (Other Nmea)
@@ -344,26 +331,29 @@ zip = refl
 pub none_of_these : other_format (codes "P") ≡ None
 none_of_these = refl
 
--- ---- the day and the clock of a time
+-- ---- the day and the time of day of a time
 
 -- a time
-abbrev pub moment : ℕ → ℕ → ℕ → Clock → Moment
-moment year month day clock =
-    record { day = record { year = year; month = month; day = day }; clock = clock }
+abbrev pub moment : ℕ → ℕ → ℕ → TimeOfDay → ℕ → Moment
+moment year month day time millisecond = record {
+  date = record { year = year; month = month; day = day };
+  time = time;
+  millisecond = millisecond;
+}
 
 -- 366 days are before the year 1
 pub a_time_of_the_year_1 : moment_at (366 * 86400000 + 3723456)
-    ≡ Some (moment 1 1 1 (record { hour = 1; minute = 2; second = 3; millisecond = 456 }))
+    ≡ Some (moment 1 1 1 (record { hour = 1; minute = 2; second = 3 }) 456)
 unfolding year_from month_from
 a_time_of_the_year_1 = refl
 
 pub a_leap_days_end : moment_at (1521 * 86400000 - 1)
-    ≡ Some (moment 4 2 29 (record { hour = 23; minute = 59; second = 59; millisecond = 999 }))
+    ≡ Some (moment 4 2 29 (record { hour = 23; minute = 59; second = 59 }) 999)
 unfolding year_from month_from
 a_leap_days_end = refl
 
-pub a_moments_text : moment_text (moment 2024 5 1
-    (record { hour = 2; minute = 30; second = 1; millisecond = 0 }))
+pub a_moments_text
+    : moment_text (moment 2024 5 1 (record { hour = 2; minute = 30; second = 1 }) 0)
     ≡ codes "2024-05-01T02:30:01Z"
-unfolding zero_filled digits
+unfolding filled digits
 a_moments_text = refl

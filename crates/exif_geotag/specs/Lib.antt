@@ -4,7 +4,6 @@ pub mod Relocating
 pub mod Replaced
 pub mod Stamps
 pub mod Between
-pub mod Calendar
 pub mod Elements
 pub mod Errors
 pub mod Examples

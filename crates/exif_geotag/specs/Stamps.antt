@@ -3,7 +3,7 @@
 use Rattle.std.specs.Prelude.{ℕ, ◌==◌, if◌then◌else◌, List, [], ◌++◌, codes}
 use Rattle.std.specs.Fmt.{decimal}
 use Rattle.exif_geotag.specs.FixTexts.{zero_filled}
-use Rattle.exif_geotag.specs.declared.moment.Clock.{Clock}
+use Rattle.exif_geotag.specs.declared.moment.Moment.{Moment}
 
 -- a fraction of a second behind a point, if there is one
 abbrev pub fraction_text : ℕ → List ℕ
@@ -11,7 +11,7 @@ fraction_text millisecond =
     if millisecond == 0 then [] else codes "." ++ zero_filled 3 (decimal millisecond)
 
 -- three numbers, and the fraction
-abbrev pub clock_words : Clock → List ℕ
-clock_words clock =
-    decimal clock.hour ++ (codes " " ++ (decimal clock.minute ++ (codes " "
-    ++ (decimal clock.second ++ fraction_text clock.millisecond))))
+abbrev pub time_words : Moment → List ℕ
+time_words moment =
+    decimal moment.time.hour ++ (codes " " ++ (decimal moment.time.minute ++ (codes " "
+    ++ (decimal moment.time.second ++ fraction_text moment.millisecond))))

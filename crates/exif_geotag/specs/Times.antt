@@ -3,33 +3,10 @@ use Rattle.std.specs.Prelude.{ℕ, ◌+◌, ◌*◌, ◌-◌, ◌==◌, ◌&&◌
 use Rattle.std.specs.Char.{is_ascii_digit}
 use Rattle.std.specs.Option.{option_and_then, option_map}
 use Rattle.exif_locations.specs.XmpScans.{run}
-use Rattle.exif_geotag.specs.Calendar.{day_number}
+use Rattle.exif_text.specs.Dates.{date_at, has_date_digits, has_time_digits, time_at}
+use Rattle.exif_text.specs.Digits.{are_two_at, two_at}
+use Rattle.exif_datetime.specs.Calendar.{is_day, is_time, seconds_of}
 use Rattle.exif_geotag.specs.Numbers.{below, fraction_of}
-
--- the number that two digits spell
-abbrev pub number_at : ℕ → List ℕ → Option ℕ
-number_at at text =
-    if is_ascii_digit (slice_index text at) && is_ascii_digit (slice_index text (at + 1))
-    then Some ((slice_index text at - 48) * 10 + (slice_index text (at + 1) - 48)) else None
-
--- the number of the day that `YYYY-MM-DD` spells
-unfoldable pub date_of : List ℕ → Option ℕ
-date_of text =
-    option_and_then (λ century. option_and_then (λ year. option_and_then (λ month.
-    option_and_then (λ day. day_number (century * 100 + year) month day)
-    (number_at 8 text)) (number_at 5 text)) (number_at 2 text)) (number_at 0 text)
-
--- the seconds of a clock
-abbrev pub seconds_of : ℕ → ℕ → ℕ → Option ℕ
-seconds_of hour minute second =
-    if nat_lt hour 24 && (nat_lt minute 60 && nat_lt second 60)
-    then Some (hour * 3600 + minute * 60 + second) else None
-
--- the seconds that `HH:MM:SS` spells behind a date
-unfoldable pub clock_of : List ℕ → Option ℕ
-clock_of text =
-    option_and_then (λ hour. option_and_then (λ minute. option_and_then (λ second.
-    seconds_of hour minute second) (number_at 17 text)) (number_at 14 text)) (number_at 11 text)
 
 -- whether a text has the marks between the numbers: two of a date, `T` or a space, `:` and `:`
 abbrev pub is_split : ℕ → List ℕ → Bool
@@ -54,12 +31,17 @@ abbrev pub thousandths_of : List ℕ → Option ℕ
 thousandths_of [] = Some 0
 thousandths_of (point ∷ digits) = fraction_of 100 digits 0
 
--- the milliseconds by which a zone is off UTC: `+hh:mm` or `-hh:mm`, whatever its sign
+-- whether a text is `+hh:mm` or `-hh:mm`, whatever its sign, with hours and minutes of a clock
+abbrev pub is_zone : List ℕ → Bool
+is_zone zone =
+    (length zone == 6) && ((slice_index zone 3 == 58)
+    && ((are_two_at zone 1 && are_two_at zone 4)
+    && (nat_lt (two_at zone 1) 24 && nat_lt (two_at zone 4) 60)))
+
+-- the milliseconds by which a zone is off UTC
 unfoldable pub zone_of : List ℕ → Option ℕ
 zone_of zone =
-    option_and_then (λ hours. option_and_then (λ minutes.
-    if (length zone == 6) && ((slice_index zone 3 == 58) && (nat_lt hours 24 && nat_lt minutes 60))
-    then Some ((hours * 60 + minutes) * 60000) else None) (number_at 4 zone)) (number_at 1 zone)
+    if is_zone zone then Some ((two_at zone 1 * 60 + two_at zone 4) * 60000) else None
 
 -- a time of a zone, in UTC; without a zone it is one of UTC
 abbrev pub zoned : ℕ → List ℕ → Option ℕ
@@ -69,11 +51,16 @@ zoned time zone =
     else (if ((slice_index zone 0 == 90) || (slice_index zone 0 == 122)) && (length zone == 1)
     then Some time else (if length zone == 0 then Some time else None)))
 
--- the milliseconds of a date and a clock, from the start of the year 0
+-- whether the digits at the fixed positions are a day of the calendar and a time of a clock
+abbrev pub is_stated : List ℕ → Bool
+is_stated text =
+    (has_date_digits text && has_time_digits text)
+    && (is_day (date_at text) && is_time (time_at text))
+
+-- the milliseconds from the start of the year 0 to them
 unfoldable pub milliseconds_of : List ℕ → Option ℕ
 milliseconds_of text =
-    option_and_then (λ days. option_map (λ seconds. (days * 86400 + seconds) * 1000)
-    (clock_of text)) (date_of text)
+    if is_stated text then Some (seconds_of (date_at text) (time_at text) * 1000) else None
 
 -- the milliseconds of a date with such marks and a clock, from the start of the year 0
 abbrev pub date_time_of : ℕ → List ℕ → Option ℕ

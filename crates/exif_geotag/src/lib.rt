@@ -3,7 +3,6 @@
 #![tactic(auto)]
 
 mod between;
-mod calendar;
 mod element;
 mod erasing;
 mod error;
@@ -29,11 +28,11 @@ mod track;
 pub use error::TrackError;
 pub use format::{OtherFormat, other_format};
 pub use gap::{DEFAULT_GAP, gap_in};
-pub use moment::{Clock, Day, Moment, moment_at};
+pub use moment::{Moment, moment_at};
 pub use pictures::{fix_of_picture, time_of_picture};
 pub use point::{Fix, Point};
 pub use relocating::{Relocated, Relocation, Unfinished, relocate};
 pub use replaced::stale_tags;
-pub use stamps::TimeStamp;
+pub use stamps::{DateStamp, TimeStamp};
 pub use time::{exif_time_of, time_of};
 pub use track::Track;

@@ -1,68 +1,19 @@
 //! Times (ISO 8601-1, 5.4; XML Schema Part 2, 3.2.7), as milliseconds of UTC.
 
 ghost use Rattle.std.specs.Prelude.{◌≡◌, ◌+◌, ◌<◌, ◌≤◌, ◌^◌, length, IfSome};
-ghost use Rattle.exif_geotag.specs.Times.{clock_of, date_of, date_time_of, digits_len, ended, exif_time_of, fraction_len, is_split, milliseconds_of, number_at, seconds_of, thousandths_of, time_of, zone_of, zoned};
+ghost use Rattle.exif_geotag.specs.Times.{date_time_of, digits_len, ended, exif_time_of, fraction_len, is_split, milliseconds_of, thousandths_of, time_of, zone_of, zoned};
 
-use crate::calendar::day_number;
 use crate::number::{below, fraction_of};
+use exif_datetime::{is_day, is_time, seconds_of};
 use exif_locations::xmp::scan::byte_at;
+use exif_text::date::{read_date, read_time};
+use exif_text::digits::two_digits;
 
 // How many bytes a date and a clock have: `YYYY-MM-DDTHH:MM:SS`.
 const FRONT: usize = 19;
 
 // The milliseconds of a minute.
 const MINUTE: u64 = 60_000;
-
-// The number that two digits spell.
-fn number_at(at: usize, text: &[u8]) -> Option<u64>
-    requires { at < 2 ^ 32 }
-    ensures answer { result ≡ number_at at text.now }
-    ensures below { IfSome result (λ number. number < 100) }
-{
-    let (tens, ones) = (byte_at(text, at), byte_at(text, at + 1));
-    if tens.is_ascii_digit() && ones.is_ascii_digit() {
-        Some(u64::from(tens - b'0') * 10 + u64::from(ones - b'0'))
-    } else {
-        None
-    }
-}
-
-// The number of the day that `YYYY-MM-DD` spells.
-#[tactic(auto, unfolding(crate::specs::Times::date_of))]
-fn date_of(text: &[u8]) -> Option<u64>
-    ensures answer { result ≡ date_of text.now }
-    ensures small { IfSome result (λ days. days < 2 ^ 25) }
-{
-    let century = number_at(0, text)?;
-    let year = number_at(2, text)?;
-    let month = number_at(5, text)?;
-    let day = number_at(8, text)?;
-    day_number(century * 100 + year, month, day)
-}
-
-// The seconds of a clock.
-fn seconds_of(hour: u64, minute: u64, second: u64) -> Option<u64>
-    ensures answer { result ≡ seconds_of hour minute second }
-    ensures small { IfSome result (λ seconds. seconds < 2 ^ 17) }
-{
-    if hour < 24 && minute < 60 && second < 60 {
-        Some(hour * 3600 + minute * 60 + second)
-    } else {
-        None
-    }
-}
-
-// The seconds that `HH:MM:SS` spells behind a date.
-#[tactic(auto, unfolding(crate::specs::Times::clock_of))]
-fn clock_of(text: &[u8]) -> Option<u64>
-    ensures answer { result ≡ clock_of text.now }
-    ensures small { IfSome result (λ seconds. seconds < 2 ^ 17) }
-{
-    let hour = number_at(11, text)?;
-    let minute = number_at(14, text)?;
-    let second = number_at(17, text)?;
-    seconds_of(hour, minute, second)
-}
 
 // Whether a text has the marks between the numbers: two of a date, `T` or a space, `:` and `:`.
 fn is_split(mark: u8, text: &[u8]) -> bool
@@ -118,10 +69,13 @@ fn zone_of(zone: &[u8]) -> Option<u64>
     ensures answer { result ≡ zone_of zone.now }
     ensures small { IfSome result (λ offset. offset < 2 ^ 27) }
 {
-    let hours = number_at(1, zone)?;
-    let minutes = number_at(4, zone)?;
-    if zone.len() == 6 && byte_at(zone, 3) == b':' && hours < 24 && minutes < 60 {
-        Some((hours * 60 + minutes) * MINUTE)
+    if zone.len() != 6 || zone[3] != b':' {
+        return None;
+    }
+    let hours = two_digits(zone, 1)?;
+    let minutes = two_digits(zone, 4)?;
+    if hours < 24 && minutes < 60 {
+        Some((u64::from(hours) * 60 + u64::from(minutes)) * MINUTE)
     } else {
         None
     }
@@ -140,15 +94,22 @@ fn zoned(time: u64, zone: &[u8]) -> Option<u64>
     }
 }
 
-// The milliseconds of a date and a clock, from the start of the year 0.
+// The milliseconds from the start of the year 0 to the date and the time that the digits at the
+// fixed positions spell.
 #[tactic(auto, unfolding(crate::specs::Times::milliseconds_of))]
 fn milliseconds_of(text: &[u8]) -> Option<u64>
+    requires { 19 ≤ length text.now }
     ensures answer { result ≡ milliseconds_of text.now }
     ensures small { IfSome result (λ time. time < 2 ^ 59) }
 {
-    let days = date_of(text)?;
-    let seconds = clock_of(text)?;
-    Some((days * 86_400 + seconds) * 1000)
+    let (Ok(date), Ok(time)) = (read_date(text), read_time(text)) else {
+        return None;
+    };
+    if is_day(date) && is_time(time) {
+        Some(seconds_of(date, time) * 1000)
+    } else {
+        None
+    }
 }
 
 // The milliseconds of a date with such marks and a clock, from the start of the year 0.

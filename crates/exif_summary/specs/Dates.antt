@@ -1,6 +1,6 @@
 -- Dates of a picture (Exif 2.32, 4.6.4 and 4.6.5: DateTime, DateTimeOriginal, DateTimeDigitized, and
 -- the tags of their offsets and fractions), as ISO 8601 writes them.
-use Rattle.std.specs.Prelude.{ℕ, ℤ, suc, unsigned_abs, ◌/◌, ◌%◌, ◌==◌, nat_lt, Bool, ◌&&◌, ◌||◌, not, List, [], ◌++◌, codes, length, Option, Some, None, Result, Ok, Err, if◌then◌else◌, option_and_then}
+use Rattle.std.specs.Prelude.{ℕ, ℤ, unsigned_abs, ◌/◌, ◌%◌, ◌==◌, nat_lt, Bool, ◌&&◌, List, [], ◌++◌, codes, length, Option, Some, None, Result, Ok, Err, if◌then◌else◌, option_and_then}
 use Rattle.std.specs.Char.{is_ascii_digit}
 use Rattle.std.specs.List.{list_all}
 use Rattle.std.specs.Fmt.{decimal}
@@ -9,6 +9,7 @@ use Rattle.exif_text.specs.Clock.{date_text, time_text}
 use Rattle.exif_text.specs.Plain.{zero_filled}
 use Rattle.exif_text.specs.Subsec.{subsec_bytes}
 use Rattle.exif_table.specs.declared.context.Context.TheVariants.{Exif, Tiff}
+use Rattle.exif_datetime.specs.Calendar.{is_day}
 use Rattle.exif_datetime.specs.Dates.{calendar_date, read_date, read_offset, time_of_day, with_offset}
 use Rattle.exif_types.specs.Refusals.{Refusal}
 use Rattle.exif_datetime.specs.declared.datetime.DateTime.{DateTime}
@@ -83,21 +84,9 @@ iso_text digits d =
     date_text (calendar_date d)
     ++ (codes "T" ++ (time_text (time_of_day d) ++ (fraction_text digits ++ offset_text d.offset)))
 
--- whether a year has a 29 February (Gregorian calendar; ISO 8601-1:2019, 4.2.1)
-abbrev pub is_leap_year : ℕ → Bool
-is_leap_year year = year % 4 == 0 && (not (year % 100 == 0) || year % 400 == 0)
-
--- how many days a month has
-abbrev pub days_in_month : ℕ → ℕ → ℕ
-days_in_month year month =
-    if month == 2 then (if is_leap_year year then 29 else 28)
-    else (if month == 4 || (month == 6 || (month == 9 || month == 11)) then 30 else 31)
-
 -- whether the calendar has a day
 abbrev pub is_calendar_day : DateTime → Bool
-is_calendar_day d =
-    nat_lt 0 d.month && (nat_lt d.month 13
-    && (nat_lt 0 d.day && nat_lt d.day (suc (days_in_month d.year d.month))))
+is_calendar_day d = is_day (calendar_date d)
 
 -- whether a day has a time (a leap second counts)
 abbrev pub is_clock_time : DateTime → Bool

@@ -7,10 +7,12 @@ ghost use Rattle.std.specs.List.{list_all, prefix_len};
 ghost use Rattle.exif_text.specs.Clock.{date_text, time_text};
 ghost use Rattle.exif_text.specs.Subsec.{subsec_bytes};
 ghost use Rattle.exif_datetime.specs.Dates.{calendar_date, time_of_day};
-ghost use Rattle.exif_summary.specs.Dates.{date_of, days_in_month, fraction_digits, fraction_of, fraction_text, is_calendar_day, is_clock_time, is_leap_year, iso_text, minutes_text, offset_text};
+ghost use Rattle.exif_summary.specs.Dates.{date_of, fraction_digits, fraction_of, fraction_text, is_calendar_day, is_clock_time, iso_text, minutes_text, offset_text};
 
 use crate::looking::find_text;
-use exif_datetime::DateTime;
+use exif_datetime::{DateTime, is_day};
+use exif_text::clock::{write_date, write_time};
+use exif_text::date::{Date, TimeOfDay};
 use exif_types::{Exif, Tag};
 use std::fmt;
 
@@ -37,11 +39,22 @@ impl fmt::Display for Iso<'_> {
     }
 }
 
+/// The day of a date.
+fn day(d: DateTime) -> Date
+    ensures { result ≡ calendar_date d }
+{
+    Date {
+        year: d.year,
+        month: d.month,
+        day: d.day,
+    }
+}
+
 /// Writes `2016-05-04`.
 fn write_day<W: fmt::Write>(f: &mut fmt::Formatter<W>, d: DateTime) -> fmt::Result
     ensures { WritesOnOk W.write_str_gives f.old result (date_text (calendar_date d)) f.new }
 {
-    write!(f, "{:04}-{:02}-{:02}", d.year, d.month, d.day)
+    write_date(f, day(d))
 }
 
 /// Writes the time of day behind a `T`.
@@ -49,7 +62,13 @@ fn write_clock<W: fmt::Write>(f: &mut fmt::Formatter<W>, d: DateTime) -> fmt::Re
     ensures { WritesOnOk W.write_str_gives f.old result
         (codes "T" ++ time_text (time_of_day d)) f.new }
 {
-    write!(f, "T{:02}:{:02}:{:02}", d.hour, d.minute, d.second)
+    f.write_str("T")?;
+    let time = TimeOfDay {
+        hour: d.hour,
+        minute: d.minute,
+        second: d.second,
+    };
+    write_time(f, time)
 }
 
 /// Writes `.74`.
@@ -87,32 +106,11 @@ fn write_minutes<W: fmt::Write>(
     write!(f, "{sign}{:02}:{:02}", minutes / 60, minutes % 60)
 }
 
-/// Whether a year has a 29 February.
-fn is_leap_year(year: u16) -> bool
-    ensures { result ≡ is_leap_year year }
-{
-    year % 4 == 0 && (year % 100 != 0 || year % 400 == 0)
-}
-
-/// How many days a month has.
-fn days_in_month(year: u16, month: u8) -> u8
-    ensures { result ≡ days_in_month year month }
-{
-    if month == 2 {
-        return if is_leap_year(year) { 29 } else { 28 };
-    }
-    if month == 4 || month == 6 || month == 9 || month == 11 {
-        30
-    } else {
-        31
-    }
-}
-
 /// Whether the calendar has a day.
 fn is_calendar_day(d: DateTime) -> bool
     ensures { result ≡ is_calendar_day d }
 {
-    0 < d.month && d.month < 13 && 0 < d.day && d.day <= days_in_month(d.year, d.month)
+    is_day(day(d))
 }
 
 /// Whether a day has a time, which may be a leap second.

@@ -35,7 +35,7 @@ pub fn write_date<W: fmt::Write>(f: &mut fmt::Formatter<W>, date: Date) -> fmt::
 }
 
 /// Writes `03:02:01`.
-fn write_time<W: fmt::Write>(f: &mut fmt::Formatter<W>, time: TimeOfDay) -> fmt::Result
+pub fn write_time<W: fmt::Write>(f: &mut fmt::Formatter<W>, time: TimeOfDay) -> fmt::Result
     ensures { WritesOnOk W.write_str_gives f.old result (time_text time) f.new }
 {
     write_two(f, time.hour)?;

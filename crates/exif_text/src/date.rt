@@ -96,7 +96,7 @@ pub fn read_date(bytes: &[u8]) -> Result<Date, DateFault>
 }
 
 /// The time of day in the digits at the fixed positions.
-fn read_time(bytes: &[u8]) -> Result<TimeOfDay, DateFault>
+pub fn read_time(bytes: &[u8]) -> Result<TimeOfDay, DateFault>
     requires { 19 ≤ length bytes.now }
     ensures { result ≡ read_time bytes.now }
 {

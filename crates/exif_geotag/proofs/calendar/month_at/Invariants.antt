@@ -1,6 +1,0 @@
-use Rattle.std.proofs.Common.{◌≡◌, ◌-◌}
-use Rattle.exif_geotag.specs.Moments.{month_at, month_from}
-use Rattle.exif_geotag.proofs.calendar.month_at.Given as goal
-
-abbrev pub invariant-loop-past : goal.invariant-loop-past
-invariant-loop-past l = month_from (12 - l.past) l.year l.past l.rest ≡ month_at l.year l.day
