@@ -9,9 +9,12 @@ use Rattle.exif_types.specs.Numbers.{number_in}
 use Rattle.exif_types.specs.declared.field.Field.{Field}
 use Rattle.exif_types.specs.declared.tag.Tag.{Tag}
 use Rattle.exif_thumbnails.specs.declared.place.Place.{Place}
-use Rattle.exif_thumbnails.specs.declared.place.TheConstants.{MAX_THUMBNAIL_LEN}
 use Rattle.exif_thumbnails.specs.declared.reading.Thumbnail.{Thumbnail}
 use Rattle.exif_thumbnails.specs.declared.reading.Thumbnail.TheVariants.{CutOff, Item, Jpeg, TooLong}
+
+-- the most bytes of a thumbnail that are read: 1 MiB
+abbrev pub largest_thumbnail : ℕ
+largest_thumbnail = 1048576
 
 -- the second directory of the chain
 abbrev pub second : In
@@ -32,9 +35,9 @@ place_in exif =
 -- the answer of a place of a file: its bytes, if they are not too many, and all there
 abbrev pub IsReadAt : Place → List ℕ → Thumbnail → Type 0
 IsReadAt place bytes (Jpeg jpeg) =
-    (place.len ≤ MAX_THUMBNAIL_LEN) × (place.offset + place.len ≤ length bytes)
+    (place.len ≤ largest_thumbnail) × (place.offset + place.len ≤ length bytes)
     × (jpeg.items ≡ take place.len (drop place.offset bytes))
-IsReadAt place bytes TooLong = MAX_THUMBNAIL_LEN < place.len
+IsReadAt place bytes TooLong = largest_thumbnail < place.len
 IsReadAt place bytes CutOff =
-    (place.len ≤ MAX_THUMBNAIL_LEN) × (length bytes < place.offset + place.len)
+    (place.len ≤ largest_thumbnail) × (length bytes < place.offset + place.len)
 IsReadAt place bytes (Item coding) = ⊥
