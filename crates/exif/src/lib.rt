@@ -21,8 +21,8 @@
 //! Ok(image.into_inner())
 //! ```
 //!
-//! Edits in place are in `exif_edit` and `exif_edit_files`, files written again in `exif_rewrite`,
-//! reports in `exif_report`, JSON in `exif_json`.
+//! Edits in place are in `exif_edit`, files written again in `exif_rewrite`, reports in
+//! `exif_report`, JSON in `exif_json`.
 #![tactic(auto)]
 
 pub mod experimental;

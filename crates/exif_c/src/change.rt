@@ -3,7 +3,7 @@
 ghost use Rattle.std.specs.Prelude.{◌≡◌, None, Some, IsUtf8};
 ghost use Rattle.exif_assign.specs.Assigning.{assigned_in, parts_of};
 ghost use Rattle.exif_edit.specs.declared.edits.Edit.TheVariants.{EraseGps};
-ghost use Rattle.exif_edit_files.specs.InFiles.{edited_file};
+ghost use Rattle.exif_edit.specs.InFiles.{edited_file};
 ghost use Rattle.exif_change.specs.Changed.{change_of};
 ghost use Rattle.exif_change.specs.Setting.{set_here};
 ghost use Rattle.exif_change.specs.declared.scrubbing.Removed.TheVariants.{Metadata};
@@ -14,7 +14,7 @@ ghost use Rattle.exif_c.specs.Statuses.{undone_status};
 use crate::buffer::{Answer, given, nothing};
 use crate::status::{Status, edit_status, refusal_status};
 use exif_change::{Assignment, Changed, ENTRY_LIMIT, Removed, set_here};
-use exif_edit_files::{Edit, apply_in_file};
+use exif_edit::{Edit, apply_in_file};
 use exif_pictures::scrub;
 use std::alloc::Global;
 

@@ -29,8 +29,8 @@ use Rattle.exif_edit_base.proofs.ReadSteps.{is_refused, not_refused, unshown, un
 use Rattle.exif_edit.specs.Edits.{edited, reads_past}
 use Rattle.exif_edit.specs.Promises.{ReadAs}
 use Rattle.exif_edit.specs.Removing.{without_named}
-use Rattle.exif_edit_files.specs.InFiles.{IsEditedIn, file_patches}
-use Rattle.exif_edit_files.proofs.FilesSound.{file_sound}
+use Rattle.exif_edit.specs.InFiles.{IsEditedIn, file_patches}
+use Rattle.exif_edit.proofs.FilesSound.{file_sound}
 use Rattle.exif_grow.specs.FieldPromises.{is_set, same_name, unset}
 use Rattle.exif_grow.proofs.SetLists.{failing}
 use Rattle.exif_change.specs.InPlace.{field_set, fit_by, fitting_set, needs_space, setting}

@@ -20,7 +20,7 @@ use Rattle.exif_rewrite.specs.RewrittenFile.{at_once, file_rewriting, rewriting_
 use Rattle.exif_rewrite_jpeg.specs.JpegSteps.{strict_end, strictly}
 use Rattle.exif_rewrite_jpeg.specs.Rewriting.{End, Rewriting, cut_off, finished, refused_by}
 use Rattle.exif_rewrite_jpeg.specs.RewrittenJpeg.{jpeg_rewriting}
-use Rattle.exif_rewrite_webp.specs.RewrittenWebp.{webp_rewriting}
+use Rattle.exif_rewrite.specs.RewrittenWebp.{webp_rewriting}
 use Rattle.exif_change.specs.Changed.{Change, Undone, whole}
 use Rattle.exif_change.specs.Growing.{grown_by, grown_file, item_moved, longest, naming, put, put_alone, replaced, too_long_for}
 use Rattle.exif_change.specs.Refusals.{Why, as_edited, as_read, second_exif, ◌>>=◌}

@@ -9,7 +9,7 @@ use Rattle.exif_segments.specs.declared.remove.Remove.TheVariants.{Metadata}
 use Rattle.exif_edit_base.specs.Causes.{Cause, no_data}
 use Rattle.exif_edit.specs.declared.edits.Edit.{Edit}
 use Rattle.exif_edit.specs.declared.edits.Edit.TheVariants.{EraseAll, EraseGps}
-use Rattle.exif_edit_files.specs.InFiles.{edited_file}
+use Rattle.exif_edit.specs.InFiles.{edited_file}
 use Rattle.exif_rewrite.specs.Color.{colorless}
 use Rattle.exif_rewrite.specs.ScrubbedExif.{scrubbed_answer, wanted}
 use Rattle.exif_types.specs.declared.tag.Tag.{Tag}

@@ -6,7 +6,7 @@ use Rattle.exif_edit_base.specs.Causes.{Cause, cause_of, no_data, no_field, shar
 use Rattle.exif_edit_base.specs.declared.error.Error.{Error}
 use Rattle.exif_edit.specs.declared.edits.Edit.{Edit}
 use Rattle.exif_edit.specs.declared.edits.Edit.TheVariants.{Set, EraseGps, EraseField, EraseAll}
-use Rattle.exif_edit_files.specs.InFiles.{edited_file}
+use Rattle.exif_edit.specs.InFiles.{edited_file}
 use Rattle.exif_change.specs.Reading.{entry_limit}
 use Rattle.exif_change.specs.declared.in_place.Fitted.{Fitted}
 use Rattle.exif_change.specs.declared.in_place.Sets.{Sets}

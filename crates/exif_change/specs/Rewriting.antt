@@ -6,7 +6,7 @@ use Rattle.exif_containers.specs.declared.container.Format.TheVariants.{Tiff, Jp
 use Rattle.exif_segments.specs.declared.remove.Remove.{Remove}
 use Rattle.exif_rewrite_jpeg.specs.Rewriting.{End, cut_off, finished, refused_by}
 use Rattle.exif_rewrite_jpeg.specs.RewrittenJpeg.{jpeg_rewriting}
-use Rattle.exif_rewrite_webp.specs.RewrittenWebp.{webp_rewriting}
+use Rattle.exif_rewrite.specs.RewrittenWebp.{webp_rewriting}
 use Rattle.exif_change.specs.Changed.{Change, whole}
 use Rattle.exif_change.specs.Changed as undone
 

@@ -8,7 +8,7 @@ ghost use Rattle.exif_change.specs.Refusals.{Answers, as_edited};
 use crate::Refusal;
 use crate::reading::ENTRY_LIMIT;
 use exif::Field;
-use exif_edit_files::{Edit, Error, apply_in_file};
+use exif_edit::{Edit, Error, apply_in_file};
 use std::alloc::Global;
 
 /// Sets a field in place. After an error the file is as it was.

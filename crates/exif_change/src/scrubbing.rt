@@ -17,7 +17,7 @@ use crate::reading::ENTRY_LIMIT;
 use crate::rewriting::rewritten;
 use crate::{Refusal, read};
 use exif_containers::container::{Format, format_of};
-use exif_edit_files::{Edit, Error, apply_in_file};
+use exif_edit::{Edit, Error, apply_in_file};
 use exif_privacy::{Stays, Unread, erase_locations};
 use exif_rewrite::{Remove, UPRIGHT, scrubbed_exif, without_color_profile};
 use std::alloc::{AllocError, Global};

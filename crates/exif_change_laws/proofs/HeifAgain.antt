@@ -29,9 +29,9 @@ use Rattle.exif_edit.specs.Clearing.{clearing, empty_offset}
 use Rattle.exif_edit.specs.Edits.{edit_patches, edited, reads_past}
 use Rattle.exif_edit.specs.declared.edits.Edit.TheVariants.{EraseAll}
 use Rattle.exif_edit.proofs.ClearSound.{clear_sound, was_cleared}
-use Rattle.exif_edit_files.specs.InFiles.{edited_file, file_patches}
-use Rattle.exif_edit_files.proofs.EditsSound.{unlimited}
-use Rattle.exif_edit_files.proofs.FilesSound.{file_sound, was_placed}
+use Rattle.exif_edit.specs.InFiles.{edited_file, file_patches}
+use Rattle.exif_edit.proofs.EditsSound.{unlimited}
+use Rattle.exif_edit.proofs.FilesSound.{file_sound, was_placed}
 use Rattle.exif_scrub.specs.HeifScrubbing as heif
 use Rattle.exif_scrub.specs.declared.heif.fault.Fault as heif_faults
 use Rattle.exif_scrub.proofs.LayoutOrder.{heif_ordered}

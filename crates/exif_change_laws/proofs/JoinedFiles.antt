@@ -7,7 +7,7 @@ use Rattle.std.proofs.lemmas.List.Elements.{All-nil, All-cons, All-head, All-tai
 use Rattle.std.proofs.Math.Seq.{drop-append_seam, take-append_seam}
 use Rattle.exif_isobmff.specs.Extents.{IsWhole, joined_bytes, range_bytes}
 use Rattle.exif_isobmff.specs.declared.locations.Extent.{Extent}
-use Rattle.exif_edit_files.specs.InFiles.{Avoids}
+use Rattle.exif_edit.specs.InFiles.{Avoids}
 
 -- two lists that begin with lists of one length
 seams : (a b c d : List ℕ) → length a ≡ length c → a ++ b ≡ c ++ d → (a ≡ c) × (b ≡ d)

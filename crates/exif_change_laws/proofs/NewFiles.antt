@@ -34,13 +34,13 @@ use Rattle.exif_layout.specs.declared.write_fault.WriteFault.{WriteFault}
 use Rattle.exif_edit_base.specs.Causes as causes
 use Rattle.exif_edit_base.specs.Causes.{Cause, no_data, of_container}
 use Rattle.exif_edit_base.specs.Patches.{patched}
-use Rattle.exif_edit_files.specs.InFiles.{data_patches, file_patches, placed}
+use Rattle.exif_edit.specs.InFiles.{data_patches, file_patches, placed}
 use Rattle.exif_rewrite.specs.FileLaws.{AnswersPut, ComesOut, IsFound}
 use Rattle.exif_rewrite.specs.RewrittenFile.{at_once, file_rewriting, rewriting_as}
 use Rattle.exif_rewrite_jpeg.specs.JpegSteps.{strict_end, strictly}
 use Rattle.exif_rewrite_jpeg.specs.Rewriting.{End, Rewriting, cut_off, finished, refused_by}
 use Rattle.exif_rewrite_jpeg.specs.RewrittenJpeg.{jpeg_rewriting}
-use Rattle.exif_rewrite_webp.specs.RewrittenWebp.{webp_rewriting}
+use Rattle.exif_rewrite.specs.RewrittenWebp.{webp_rewriting}
 use Rattle.exif_assign.specs.Assigning.{parts_of}
 use Rattle.exif_assign.specs.Rules.{type_of_new}
 use Rattle.exif_assign.specs.Values.{value_in}

@@ -12,7 +12,7 @@ use Rattle.exif_isobmff.specs.declared.locations.Extent.{Extent}
 use Rattle.exif_isobmff.proofs.ExtentRanges.{small}
 use Rattle.exif_edit_base.specs.Patches.{patched, put_at}
 use Rattle.exif_edit_base.specs.declared.patch.Patch.{Patch}
-use Rattle.exif_edit_files.specs.Spreading.{first_of, rest_of, shifted, spread, spread_one, without}
+use Rattle.exif_edit.specs.Spreading.{first_of, rest_of, shifted, spread, spread_one, without}
 
 -- bytes hold these at an offset
 abbrev pub HasAt : List ℕ → Patch → Type 0

@@ -25,14 +25,14 @@ use Rattle.exif_edit_base.specs.declared.patch.Patch.{Patch}
 use Rattle.exif_edit_base.proofs.CauseSteps.{bound, ok_same}
 use Rattle.exif_edit.specs.Clearing.{clear_patches, clearing}
 use Rattle.exif_edit.specs.declared.edits.Edit.TheVariants.{EraseAll}
-use Rattle.exif_edit_files.specs.InFiles.{data_patches, edited_file, file_patches, if_served, placed, serves, takes_picture}
-use Rattle.exif_edit_files.specs.Spreading.{spread}
-use Rattle.exif_edit_files.proofs.FilesSound.{file_sound}
+use Rattle.exif_edit.specs.InFiles.{data_patches, edited_file, file_patches, if_served, placed, serves, takes_picture}
+use Rattle.exif_edit.specs.Spreading.{spread}
+use Rattle.exif_edit.proofs.FilesSound.{file_sound}
 use Rattle.exif_rewrite.specs.FileLaws.{AnswersPut, ComesOut, IsFound}
 use Rattle.exif_rewrite.specs.RewrittenFile.{at_once, file_rewriting, rewriting_as}
 use Rattle.exif_rewrite.proofs.FileHeads.{jpeg_head, webp_head}
 use Rattle.exif_rewrite_jpeg.specs.Rewriting.{Rewriting, finished}
-use Rattle.exif_rewrite_webp.specs.RewrittenWebp.{webp_rewriting}
+use Rattle.exif_rewrite.specs.RewrittenWebp.{webp_rewriting}
 use Rattle.exif_inventory.specs.declared.part.Part.{Part}
 use Rattle.exif_scrub.specs.HeifScrubbing as heif
 use Rattle.exif_scrub.specs.declared.heif.fault.Fault as heif_faults

@@ -13,8 +13,8 @@ use Rattle.exif_edit_base.specs.Patches.{patched}
 use Rattle.exif_edit_base.proofs.CauseSteps.{bound, data_held, ok_same, passed}
 use Rattle.exif_edit.specs.Edits.{edited, reads_past}
 use Rattle.exif_edit.specs.Setting.{set_answer}
-use Rattle.exif_edit_files.specs.InFiles.{IsEditedIn, file_patches}
-use Rattle.exif_edit_files.proofs.FilesSound.{file_sound}
+use Rattle.exif_edit.specs.InFiles.{IsEditedIn, file_patches}
+use Rattle.exif_edit.proofs.FilesSound.{file_sound}
 use Rattle.exif_change.specs.InPlace.{field_set, setting}
 use Rattle.exif_change.specs.Reading.{entry_limit}
 use Rattle.exif_change_laws.specs.Assigned.{KeepsEntry}

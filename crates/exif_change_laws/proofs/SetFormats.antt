@@ -18,11 +18,11 @@ use Rattle.exif_edit_base.specs.declared.patch.Patch.{Patch}
 use Rattle.exif_edit_base.proofs.CauseSteps.{bound, ok_same}
 use Rattle.exif_edit_base.proofs.PatchSteps.{length-patched}
 use Rattle.exif_edit.specs.declared.edits.Edit.{Edit}
-use Rattle.exif_edit_files.specs.InFiles.{file_patches}
-use Rattle.exif_edit_files.specs.Spreading.{spread}
-use Rattle.exif_edit_files.proofs.EditsSound.{edit_fits, edit_stands_in, unlimited}
-use Rattle.exif_edit_files.proofs.FilesSound.{WasPlaced, was_placed}
-use Rattle.exif_edit_files.proofs.Spreads.{spread_front}
+use Rattle.exif_edit.specs.InFiles.{file_patches}
+use Rattle.exif_edit.specs.Spreading.{spread}
+use Rattle.exif_edit.proofs.EditsSound.{edit_fits, edit_stands_in, unlimited}
+use Rattle.exif_edit.proofs.FilesSound.{WasPlaced, was_placed}
+use Rattle.exif_edit.proofs.Spreads.{spread_front}
 use Rattle.exif_change.specs.InPlace.{field_set, fit_by, fitting_set, needs_space, setting}
 use Rattle.exif_change.specs.Reading.{entry_limit}
 

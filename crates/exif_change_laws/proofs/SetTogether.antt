@@ -25,8 +25,8 @@ use Rattle.exif_edit_base.proofs.CauseSteps.{bound as edit_bound, ok_same}
 use Rattle.exif_edit_base.proofs.ReadSteps.{is_refused, not_refused}
 use Rattle.exif_edit.specs.Promises.{ReadAs}
 use Rattle.exif_edit.proofs.HeaderMarks.{IsMarked, header_marked}
-use Rattle.exif_edit_files.specs.InFiles.{file_patches}
-use Rattle.exif_edit_files.proofs.FilesSound.{file_sound}
+use Rattle.exif_edit.specs.InFiles.{file_patches}
+use Rattle.exif_edit.proofs.FilesSound.{file_sound}
 use Rattle.exif_rewrite.specs.FileLaws.{IsFound}
 use Rattle.exif_grow.specs.FieldPromises.{bare}
 use Rattle.exif_grow.specs.Fields.{field_grown, fields_grown}

@@ -37,8 +37,8 @@ use Rattle.exif_edit.specs.Setting.{set_patches}
 use Rattle.exif_edit.specs.declared.edits.Edit.{Edit}
 use Rattle.exif_edit.specs.declared.edits.Edit.TheVariants.{Set}
 use Rattle.exif_edit.proofs.SetSound.{Fits, value_fits, value_misses, was_set}
-use Rattle.exif_edit_files.specs.InFiles.{Avoids, file_patches}
-use Rattle.exif_edit_files.proofs.FilesSound.{file_sound}
+use Rattle.exif_edit.specs.InFiles.{Avoids, file_patches}
+use Rattle.exif_edit.proofs.FilesSound.{file_sound}
 use Rattle.exif_datetime.specs.Shift.{moved_value, opposite}
 use Rattle.exif_datetime.specs.declared.shift.ClockShift.{ClockShift}
 use Rattle.exif_datetime.specs.declared.shift.Unmoved.{Unmoved}

@@ -30,8 +30,8 @@ use Rattle.exif_edit.specs.declared.edits.Edit.{Edit}
 use Rattle.exif_edit.specs.declared.edits.Edit.TheVariants.{Set}
 use Rattle.exif_edit.proofs.ReadSound.{reads_are}
 use Rattle.exif_edit.proofs.SetSound.{was_set}
-use Rattle.exif_edit_files.specs.InFiles.{file_patches}
-use Rattle.exif_edit_files.proofs.FilesSound.{file_sound}
+use Rattle.exif_edit.specs.InFiles.{file_patches}
+use Rattle.exif_edit.proofs.FilesSound.{file_sound}
 use Rattle.exif_datetime.specs.Shift.{moved_text, moved_value, opposite, with_date}
 use Rattle.exif_datetime.specs.declared.shift.ClockShift.{ClockShift}
 use Rattle.exif_datetime.specs.declared.shift.Unmoved.{Unmoved}

@@ -12,7 +12,7 @@ use Rattle.exif_text.specs.Decimal.{decimal_text, rational_decimal}
 use Rattle.exif_text.specs.Plain.{listed, plain_text}
 use Rattle.exif_text.specs.declared.field_type.FieldType.TheVariants as field_type
 use Rattle.exif_text.specs.declared.rational.Rational.{Rational as Fraction}
-use Rattle.exif_display.specs.Kinds.{value_text}
+use Rattle.exif_table.specs.Kinds.{value_text}
 use Rattle.exif_types.specs.TagRows.{kind_of}
 use Rattle.exif_types.specs.ValueTexts.{text_of}
 use Rattle.exif_types.specs.declared.tag.Tag.{Tag}

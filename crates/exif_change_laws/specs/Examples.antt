@@ -9,7 +9,7 @@ use Rattle.exif_edit_base.specs.Finding.{find_answer}
 use Rattle.exif_edit_base.specs.Locations.{located}
 use Rattle.exif_edit_base.specs.Readings.{reading}
 use Rattle.exif_edit.specs.Setting.{checked_patches, set_patches, value_answer}
-use Rattle.exif_edit_files.specs.InFiles.{file_patches}
+use Rattle.exif_edit.specs.InFiles.{file_patches}
 use Rattle.exif_datetime.specs.Calendar.{days_before_month, days_before_year, month_from, year_from}
 use Rattle.exif_datetime.specs.Shift.{opposite}
 use Rattle.exif_datetime.specs.declared.shift.ClockShift.{ClockShift}

@@ -9,7 +9,7 @@ use Rattle.exif_layout.specs.Image.{draft_parts, image}
 use Rattle.exif_layout.specs.Offsets.{draft_end, exif_offset, exif_values, gps_offset, gps_values, interop_offset, interop_values, jpeg_offset, strips_offset, tiff_offset, tiff_values, tiles_offset}
 use Rattle.exif_layout.specs.Refused.{group_fault, write_fault}
 use Rattle.exif_layout.specs.Slots.{exif_slots, gps_slots, interop_slots, tiff_slots}
-use Rattle.exif_edit_files.specs.InFiles.{file_patches}
+use Rattle.exif_edit.specs.InFiles.{file_patches}
 use Rattle.exif_assign.specs.Values.{value_in}
 use Rattle.exif_assign.specs.declared.assignment.Assignment.{Assignment}
 use Rattle.exif_change.specs.Changed.{whole}

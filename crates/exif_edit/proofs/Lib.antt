@@ -18,3 +18,8 @@ pub mod SetSteps
 pub mod Told
 pub mod Unshared
 pub mod WalkedDirectories
+pub mod EditsSound
+pub mod FileSteps
+pub mod FilesSound
+pub mod SourceSteps
+pub mod Spreads

@@ -8,3 +8,6 @@ pub mod Promises
 pub mod Removing
 pub mod Setting
 pub mod Sharing
+pub mod InFiles
+pub mod Spreading
+pub mod Sources

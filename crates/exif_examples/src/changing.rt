@@ -3,7 +3,7 @@
 ghost use Rattle.std.specs.Prelude.{◌≡◌, None, IfOk, OnErr, OnOk};
 ghost use Rattle.exif_base.specs.Orders.{order_named};
 ghost use Rattle.exif_edit.specs.declared.edits.Edit.TheVariants.{EraseGps};
-ghost use Rattle.exif_edit_files.specs.InFiles.{IsEditedIn};
+ghost use Rattle.exif_edit.specs.InFiles.{IsEditedIn};
 ghost use Rattle.exif_segments.specs.declared.remove.Remove.TheVariants.{Metadata};
 ghost use Rattle.exif_rewrite_jpeg.specs.Rewriting.{ends, finished};
 ghost use Rattle.exif_rewrite.specs.RewrittenFile.{file_rewriting};
@@ -12,7 +12,7 @@ ghost use Rattle.exif_layout.specs.Scrubbing.{scrubbed};
 ghost use Rattle.exif_examples.specs.Fields.{orientation_edit};
 
 use exif::{Counted, Exif, In, Items, Tag, Value};
-use exif_edit_files::{Edit, apply_in_file};
+use exif_edit::{Edit, apply_in_file};
 use exif_rewrite::{Remove, rewrite};
 use std::alloc::Global;
 

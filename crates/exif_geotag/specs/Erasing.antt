@@ -2,7 +2,7 @@
 use Rattle.std.specs.Prelude.{ℕ, List, [], ◌∷◌, ◌++◌, Option, Some, Result, Ok, Err}
 use Rattle.exif_edit.specs.declared.edits.Edit.TheVariants.{EraseField}
 use Rattle.exif_edit_base.specs.Causes.{Cause}
-use Rattle.exif_edit_files.specs.InFiles.{edited_file}
+use Rattle.exif_edit.specs.InFiles.{edited_file}
 use Rattle.exif_types.specs.declared.tag.Tag.{Tag}
 
 -- a file without a field, or as it was, and the tags of those that can't be taken out

@@ -4,7 +4,7 @@ ghost use Rattle.std.specs.Prelude.{◌≡◌, [], IfOk, OnOk};
 ghost use Rattle.exif_geotag.specs.Erasing.{all_erased, one_erased};
 
 use exif_change::ENTRY_LIMIT;
-use exif_edit_files::{Edit, Error, apply_in_file};
+use exif_edit::{Edit, Error, apply_in_file};
 use exif_types::{In, Tag};
 use std::alloc::{AllocError, Global};
 

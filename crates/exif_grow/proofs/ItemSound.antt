@@ -17,7 +17,7 @@ use Rattle.exif_edit_base.specs.Patches.{FitsIn, inside, patched}
 use Rattle.exif_edit_base.specs.declared.patch.Patch.{Patch}
 use Rattle.exif_edit_base.proofs.CauseSteps.{bound, data_held, ok_same, passed, tested}
 use Rattle.exif_edit_base.proofs.PatchSteps.{length-patched}
-use Rattle.exif_edit_files.specs.InFiles.{holds}
+use Rattle.exif_edit.specs.InFiles.{holds}
 use Rattle.exif_grow.specs.Growing.{Added, grown}
 use Rattle.exif_grow.specs.Promises.{KeepsOld, Spares}
 use Rattle.exif_grow.proofs.OldKept.{keeps_old}

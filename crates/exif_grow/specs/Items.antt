@@ -5,7 +5,7 @@ use Rattle.exif_grow.specs.ItemFields.{ItemFields, are_closed, item_fields}
 use Rattle.exif_isobmff.specs.declared.locations.Extent.{Extent}
 use Rattle.exif_edit_base.specs.Causes.{Cause, of_container, shared, unless, ◌>>=◌}
 use Rattle.exif_edit_base.specs.declared.patch.Patch.{Patch}
-use Rattle.exif_edit_files.specs.InFiles.{holds}
+use Rattle.exif_edit.specs.InFiles.{holds}
 use Rattle.exif_grow.specs.Growing.{Added, grown}
 use Rattle.exif_grow.specs.Entries.{moved_entry, number_len}
 use Rattle.exif_grow.specs.Refusals.{large, narrow, open_ended, several}

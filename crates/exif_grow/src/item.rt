@@ -4,7 +4,7 @@ ghost use Rattle.std.specs.Prelude.{◌≡◌, ◌≢◌, ◌≤◌, ◌+◌, �
 ghost use Rattle.exif_edit_base.specs.Causes.{Makes};
 ghost use Rattle.exif_edit_base.specs.Patches.{FitsIn};
 ghost use Rattle.exif_edit_base.specs.declared.error.Error.TheVariants.{OutOfMemory};
-ghost use Rattle.exif_edit_files.specs.InFiles.{holds};
+ghost use Rattle.exif_edit.specs.InFiles.{holds};
 ghost use Rattle.exif_grow.specs.Growing.{added_of, grown};
 ghost use Rattle.exif_grow.specs.ItemFields.{fields_view};
 ghost use Rattle.exif_grow.specs.Items.{first_held, item_added, item_grown, item_growth, item_moved, media_box, one_range, range_cleared};
@@ -15,8 +15,8 @@ use crate::entry::{moved_entry, number_len};
 use crate::item_fields::{ExifFields, item_fields};
 use crate::{Growth, grown};
 use exif_base::Items;
+use exif_edit::holds;
 use exif_edit_base::{Error, Patch};
-use exif_edit_files::holds;
 use exif_isobmff::{Extent, MAX_EXIF_SIZE};
 use std::alloc::{AllocError, Global};
 

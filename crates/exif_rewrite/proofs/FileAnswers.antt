@@ -14,8 +14,8 @@ use Rattle.exif_rewrite_jpeg.specs.JpegSteps.{strictly, strict_end}
 use Rattle.exif_rewrite_jpeg.specs.JpegTokens.{IsFiltered}
 use Rattle.exif_rewrite_jpeg.specs.Rewriting.{End, finished, cut_off, refused_by}
 use Rattle.exif_rewrite_jpeg.specs.RewrittenJpeg.{jpeg_rewriting}
-use Rattle.exif_rewrite_webp.specs.RewrittenWebp.{webp_rewriting}
-use Rattle.exif_rewrite_webp.specs.WebpLaws.{FileAnswers, FileIsAnswered, FileIsStable}
+use Rattle.exif_rewrite.specs.RewrittenWebp.{webp_rewriting}
+use Rattle.exif_rewrite.specs.WebpLaws.{FileAnswers, FileIsAnswered, FileIsStable}
 use Rattle.exif_rewrite.specs.FileLaws.{AnswersPut, ComesOut, IsFound, IsSettled}
 use Rattle.exif_rewrite.specs.RewrittenFile.{at_once, file_rewriting, heif_stays, rewriting_as, tiff_stays}
 use Rattle.exif_rewrite.proofs.FileHeads.{jpeg_container, jpeg_head, webp_begins, webp_container, webp_head}

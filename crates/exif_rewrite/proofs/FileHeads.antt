@@ -13,7 +13,7 @@ use Rattle.exif_containers.specs.Container.{answer_as, container_answer, data_of
 use Rattle.exif_segments.specs.Jpeg.{jpeg_answer}
 use Rattle.exif_segments.specs.Webp.{begins_webp, broken_webp, no_exif_in_webp, not_webp, webp_answer}
 use Rattle.exif_containers.specs.declared.container.Format.TheVariants.{Jpeg, Heif, WebP}
-use Rattle.exif_rewrite_webp.specs.WebpLaws.{FileAnswers}
+use Rattle.exif_rewrite.specs.WebpLaws.{FileAnswers}
 
 -- ---- JPEG streams
 

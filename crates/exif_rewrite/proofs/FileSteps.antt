@@ -19,8 +19,8 @@ use Rattle.exif_rewrite_jpeg.specs.JpegSteps.{strictly, strict_end}
 use Rattle.exif_rewrite_jpeg.specs.Passing.{Finishes, StopsBy}
 use Rattle.exif_rewrite_jpeg.specs.Rewriting.{Rewriting, finished, refused_by}
 use Rattle.exif_rewrite_jpeg.specs.RewrittenJpeg.{jpeg_rewriting}
-use Rattle.exif_rewrite_webp.specs.RewrittenWebp.{webp_rewriting, webp_rewriting_refusals}
-use Rattle.exif_rewrite_webp.specs.WebpPlans.{StopsFile, sent_of}
+use Rattle.exif_rewrite.specs.RewrittenWebp.{webp_rewriting, webp_rewriting_refusals}
+use Rattle.exif_rewrite.specs.WebpPlans.{StopsFile, sent_of}
 use Rattle.exif_rewrite.specs.RewrittenFile.{at_once, file_refusals, file_rewriting, heif_stays, rewriting_as, tiff_stays}
 
 -- ---- the head

@@ -8,7 +8,7 @@ use Rattle.exif_inventory.specs.declared.kind.Kind.{Kind}
 use Rattle.exif_inventory.specs.declared.kind.Kind.TheVariants as kind
 use Rattle.exif_inventory.specs.declared.part.Part.{Part}
 use Rattle.exif_inventory.specs.Walks.{inventory}
-use Rattle.exif_rewrite_webp.specs.RewrittenWebp.{without}
+use Rattle.exif_rewrite.specs.RewrittenWebp.{without}
 
 -- whether a part is of a colour profile
 abbrev pub is_profile : Kind → Bool

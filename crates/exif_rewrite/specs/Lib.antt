@@ -3,3 +3,8 @@ pub mod ColorExamples
 pub mod FileLaws
 pub mod RewrittenFile
 pub mod ScrubbedExif
+pub mod RewrittenWebp
+pub mod WebpChunks
+pub mod WebpExamples
+pub mod WebpLaws
+pub mod WebpPlans

@@ -9,7 +9,7 @@ use Rattle.exif_rewrite_jpeg.specs.Faults.{rewriting_refusals}
 use Rattle.exif_rewrite_jpeg.specs.JpegSteps.{strictly}
 use Rattle.exif_rewrite_jpeg.specs.Rewriting.{Rewriting, ends, finished, refused_by}
 use Rattle.exif_rewrite_jpeg.specs.RewrittenJpeg.{jpeg_rewriting}
-use Rattle.exif_rewrite_webp.specs.RewrittenWebp.{webp_rewriting, webp_rewriting_refusals}
+use Rattle.exif_rewrite.specs.RewrittenWebp.{webp_rewriting, webp_rewriting_refusals}
 
 -- what TIFF data and HEIF files hold is found by its offset in the file
 abbrev pub tiff_stays : Refusal

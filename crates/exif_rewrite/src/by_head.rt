@@ -13,10 +13,10 @@ ghost use Rattle.exif_rewrite_jpeg.specs.Passing.{Finishes, StopsBy};
 ghost use Rattle.exif_rewrite_jpeg.specs.Rewriting.{finished};
 ghost use Rattle.exif_rewrite.specs.RewrittenFile.{file_refusals, file_rewriting, rewriting_as};
 
+use crate::webp::rewrite_webp;
 use exif_base::{Blocks, Sink, Source, read_front};
 use exif_containers::container::{Format, SNIFF_LEN, format_of};
 use exif_rewrite_jpeg::rewrite_jpeg;
-use exif_rewrite_webp::rewrite_webp;
 use exif_segments::Remove;
 use exif_types::Error;
 use std::alloc::Global;

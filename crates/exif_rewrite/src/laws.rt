@@ -5,10 +5,10 @@ ghost use Rattle.std.specs.Prelude.{ℕ, List, Option};
 ghost use Rattle.exif_segments.specs.declared.remove.Remove.{Remove};
 ghost use Rattle.exif_rewrite.specs.FileLaws.{IsFound, IsSettled};
 
+use crate::webp::laws::{webp_answers_what_was_put, webp_twice_is_once};
 use exif_rewrite_jpeg::laws::{
     jpeg_answers_what_was_put, jpeg_keeps_what_stays, jpeg_twice_is_once,
 };
-use exif_rewrite_webp::laws::{webp_answers_what_was_put, webp_twice_is_once};
 
 /// Reading a file that was written again finds the new Exif data, or that there are none.
 pub fn file_answers_what_was_put()

@@ -1,5 +1,5 @@
-//! Whole files written again: without their Exif data, all metadata or
-//! their colour profile, and with new Exif data.
+//! Whole files written again: without their Exif data, all metadata or their colour profile, and
+//! with new Exif data.
 #![tactic(auto)]
 
 pub mod by_head;
@@ -7,11 +7,12 @@ mod color;
 pub mod laws;
 pub mod scrubbed;
 pub mod scrubbing;
+pub mod webp;
 
 pub use by_head::rewrite;
 pub use color::without_color_profile;
 pub use exif_rewrite_jpeg::{Ended, rewrite_jpeg, rewrite_jpeg_as_it_stands};
-pub use exif_rewrite_webp::rewrite_webp;
 pub use exif_segments::Remove;
 pub use scrubbed::{UPRIGHT, scrubbed_exif};
 pub use scrubbing::scrub;
+pub use webp::rewrite_webp;

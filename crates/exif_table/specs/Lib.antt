@@ -4,3 +4,10 @@ pub mod Rising
 pub mod Rows
 pub mod Table
 pub mod View
+pub mod FixedText
+pub mod Flash
+pub mod Fractions
+pub mod Kinds
+pub mod Letters
+pub mod Numbers
+pub mod Versions

@@ -1,7 +1,8 @@
-//! The tags of Exif 2.32 and the fixed texts of their values.
+//! The tags of Exif 2.32, the fixed texts of their values, and how a value is shown by its tag.
 #![tactic(auto)]
 
 pub mod context;
+pub mod display;
 pub mod fixed;
 pub mod kind;
 pub mod laws;

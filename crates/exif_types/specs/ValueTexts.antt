@@ -1,7 +1,7 @@
 -- The texts of values by their tags (Exif 2.32, section 4.6).
 use Rattle.std.specs.Prelude.{ℕ, List}
 use Rattle.exif_text.specs.Contents.{contents_view}
-use Rattle.exif_display.specs.Kinds.{value_text}
+use Rattle.exif_table.specs.Kinds.{value_text}
 use Rattle.exif_types.specs.declared.tag.Tag.{Tag}
 use Rattle.exif_types.specs.declared.value.Value.{Value}
 use Rattle.exif_types.specs.declared.display.Display.{Display}

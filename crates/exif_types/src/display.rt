@@ -5,8 +5,8 @@ ghost use Rattle.exif_types.specs.ValueTexts.{text_of};
 
 use crate::unit::{DisplayValueUnit, ProvideUnit};
 use crate::{Field, Tag, Value};
-use exif_display::write_value;
 use exif_table::TextKind;
+use exif_table::display::write_value;
 use exif_text::Contents;
 use std::fmt;
 use std::marker::Model;
@@ -30,7 +30,7 @@ impl fmt::Display for Display<'_> {
 }
 
 impl Value {
-    ghost use Rattle.exif_display.specs.Kinds.{value_text};
+    ghost use Rattle.exif_table.specs.Kinds.{value_text};
     ghost use Rattle.exif_types.specs.PlainValues.{plain_of};
     ghost use Rattle.exif_types.specs.ValueTexts.{shown_text};
 

@@ -10,7 +10,7 @@ ghost use Rattle.exif_types.specs.Units.{default_text, missing_text, pieces_text
 ghost use Rattle.exif_types.specs.ValueTexts.{shown_text, text_of};
 
 use crate::{Display, Exif, Field, In, Rational, Tag};
-use exif_display::write_value;
+use exif_table::display::write_value;
 use exif_table::{DefaultValue, UnitPiece};
 use exif_text::Contents;
 use std::fmt;

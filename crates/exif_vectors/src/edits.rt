@@ -3,8 +3,7 @@
 use crate::calls::{OUT_OF_MEMORY, end_of, end_of_error, send};
 use crate::cases::{Call, Case, CaseError, Kind};
 use exif::{Counted, Field, In, Seekable, Sink, Source, Tag};
-use exif_edit::{Edit, Error, Patch, apply, patches_of};
-use exif_edit_files::{apply_in_file, patches_in};
+use exif_edit::{Edit, Error, Patch, apply, apply_in_file, patches_in, patches_of};
 use exif_segments::util::read_all;
 use std::alloc::Global;
 use std::fmt::Display;

@@ -6,7 +6,7 @@ use exif_files::{
     Edit, EditError, Edited, Failure, HostFiles, Keeping, Report, Reporter, Status, WriteError,
     change, change_all, create_new, move_new, replace,
 };
-use exif_files_memory::{MemoryFiles, Stored};
+use exif_test_support::{MemoryFiles, Stored};
 use std::alloc::Global;
 use std::fs;
 use std::test::Fail;

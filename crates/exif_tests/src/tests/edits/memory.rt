@@ -4,8 +4,7 @@
 use super::undone::out_of_memory;
 use super::{DESCRIPTION, put, text};
 use exif_base::Counted;
-use exif_edit::{Edit, Error, Patch, apply, patches_of};
-use exif_edit_files::{apply_in_file, patches_in};
+use exif_edit::{Edit, Error, Patch, apply, apply_in_file, patches_in, patches_of};
 use exif_test_support::shortage::{Outcome, in_turn};
 use exif_types::In;
 use std::alloc::Global;

@@ -2,8 +2,7 @@
 
 use super::{DESCRIPTION, is_so, text};
 use exif_base::Counted;
-use exif_edit::{Edit, Error, Patch, patches_of};
-use exif_edit_files::patches_in;
+use exif_edit::{Edit, Error, Patch, patches_in, patches_of};
 use exif_test_support::files::{DESCRIBED_BIG, JPEG, OFFSET_BEFORE_DESCRIPTION};
 use exif_types::{Context, In, Tag};
 use std::alloc::{AllocError, Global};

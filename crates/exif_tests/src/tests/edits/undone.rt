@@ -3,8 +3,7 @@
 
 use super::{DESCRIPTION, put, text};
 use exif_base::Items;
-use exif_edit::{Edit, Error, apply};
-use exif_edit_files::apply_in_file;
+use exif_edit::{Edit, Error, apply, apply_in_file};
 use exif_test_support::shortage::{Outcome, in_turn};
 use exif_types::{Context, In, Tag, Value};
 use std::alloc::Global;

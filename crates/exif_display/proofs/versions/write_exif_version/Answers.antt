@@ -1,6 +1,0 @@
-use Rattle.std.proofs.lemmas.Grind.{common_steps}
-use Rattle.std.proofs.Common.{arith}
-use Rattle.exif_display.proofs.versions.write_exif_version.Goals as goal
-
-pub returns-else-minor-eq0 : goal.returns-else-minor-eq0
-returns-else-minor-eq0 g c = grind (arith, common_steps)

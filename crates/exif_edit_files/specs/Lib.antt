@@ -1,3 +1,0 @@
-pub mod InFiles
-pub mod Spreading
-pub mod Sources

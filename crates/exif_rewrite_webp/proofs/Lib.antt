@@ -1,4 +1,0 @@
-pub mod WebpAnswers
-pub mod WebpLaws
-pub mod WebpSteps
-pub mod WebpTwice
