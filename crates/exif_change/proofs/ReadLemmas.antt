@@ -13,7 +13,7 @@ use Rattle.exif_tiff.specs.Faults.{refusal}
 use Rattle.exif_tiff.specs.Trace.{header}
 use Rattle.exif_tiff.specs.declared.fault.Fault.{Fault}
 use Rattle.exif_reader.specs.Files.{ReadsContainer}
-use Rattle.exif_reader.specs.Readings.{FailsAs, HoldsData, IsRefusal}
+use Rattle.exif_tiff.specs.Readings.{FailsAs, HoldsData, IsRefusal}
 use Rattle.exif_change.specs.Reading.{Contents, contents_of, data_contents, entry_limit, faults_skipped, fields_in, without_fault}
 
 -- data with these fields and this order

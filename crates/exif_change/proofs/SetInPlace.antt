@@ -15,7 +15,7 @@ use Rattle.exif_tiff.specs.Answers.{Answer, Refused, answer_of, raw_answer, show
 use Rattle.exif_tiff.specs.Trace.{content_of, faults_of, fields_of, header, limited, ordered_trace, trace, visits_of}
 use Rattle.exif_tiff.specs.declared.fault.Fault.{Fault}
 use Rattle.exif_tiff.specs.declared.fault.Fault.TheVariants.{TooManyEntries}
-use Rattle.exif_reader.proofs.TiffAnswers.{trace_right}
+use Rattle.exif_tiff.proofs.TiffAnswers.{trace_right}
 use Rattle.exif_containers.specs.Container.{container_answer}
 use Rattle.exif_containers.proofs.Replacing.{data_are_located}
 use Rattle.exif_layout.specs.Encoding.{moved_to}

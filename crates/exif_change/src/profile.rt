@@ -9,7 +9,7 @@ use exif_containers::container::{Format, format_of};
 use exif_edit_base::Error;
 use exif_edit_base::limit::check_limit;
 use exif_edit_base::read::read;
-use exif_reader::stop::Stop;
+use exif_tiff::stop::Stop;
 use exif_types::{Context, Field};
 use std::alloc::{AllocError, Global};
 

@@ -16,7 +16,7 @@ use Rattle.exif_formats.specs.Formats.{format_in, known_or, other_format_in}
 use Rattle.exif_formats.specs.Pictures.{png_data}
 use Rattle.exif_formats.specs.declared.format.PictureFormat.{PictureFormat}
 use Rattle.exif_formats.specs.declared.format.PictureFormat.TheVariants.{Tiff, Jpeg, Heif, WebP, Png, JpegXl, Raf, Orf, Rw2, Cr3}
-use Rattle.exif_formats.specs.Png.{png_answer}
+use Rattle.exif_containers.specs.Png.{png_answer}
 use Rattle.exif_rewrite.specs.FileLaws.{IsFound}
 use Rattle.exif_rewrite_png.specs.PngLaws.{Holds, IsAnswered}
 use Rattle.exif_rewrite_png.specs.RewrittenPng.{png_rewriting}

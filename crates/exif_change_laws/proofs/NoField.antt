@@ -12,7 +12,7 @@ use Rattle.exif_tiff.specs.Answers.{Refused, Whole, raw_answer, shown}
 use Rattle.exif_tiff.specs.Limits.{AnswersWithin, IsCutPast, LenientAnswersCut}
 use Rattle.exif_tiff.specs.Trace.{Found, Met, Node, Opens, Visit, faults_of, fields_of, header, ordered_trace, trace, visits_of}
 use Rattle.exif_tiff.specs.declared.fault.Fault.{Fault}
-use Rattle.exif_reader.proofs.TiffAnswers.{raw_right, trace_right}
+use Rattle.exif_tiff.proofs.TiffAnswers.{raw_right, trace_right}
 use Rattle.exif_edit_base.proofs.ReadSteps.{is_refused, not_refused, unshown, unshown_shown}
 use Rattle.exif_change.specs.Reading.{data_contents, fields_in, without_fault}
 use Rattle.exif_change_laws.specs.Scrubbed.{HasNoField}

@@ -19,7 +19,7 @@ use Rattle.exif_tiff.specs.Faults.{refusal}
 use Rattle.exif_tiff.specs.Limits.{AnswersWithin}
 use Rattle.exif_tiff.specs.Trace.{content_of, faults_of, fields_of, header, limited, ordered_trace, trace, visits_of}
 use Rattle.exif_tiff.specs.declared.fault.Fault.{Fault}
-use Rattle.exif_reader.proofs.TiffAnswers.{trace_right}
+use Rattle.exif_tiff.proofs.TiffAnswers.{trace_right}
 use Rattle.exif_segments.specs.declared.remove.Remove.{Remove}
 use Rattle.exif_containers.specs.Container.{container_answer, format_in}
 use Rattle.exif_containers.specs.declared.container.Format.{Format}

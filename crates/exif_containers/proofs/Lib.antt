@@ -9,3 +9,5 @@ pub mod IsobmffMeta
 pub mod IsobmffNames
 pub mod LocatedSteps
 pub mod Replacing
+pub mod LawsPng
+pub mod PngChunks

@@ -3,3 +3,7 @@ pub mod GoingBack
 pub mod HeifSteps
 pub mod Located
 pub mod Replacing
+pub mod Png
+pub mod PngExamples
+pub mod PngGrammar
+pub mod PngSteps

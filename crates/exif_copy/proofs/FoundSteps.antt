@@ -7,12 +7,12 @@ use Rattle.exif_types.specs.declared.error.Error.TheVariants as error
 use Rattle.exif_tiff.specs.Answers.{raw_answer}
 use Rattle.exif_segments.specs.Answer.{Answer, found}
 use Rattle.exif_containers.specs.Container.{data_of}
-use Rattle.exif_formats.specs.Png.{png_answer}
+use Rattle.exif_containers.specs.Png.{png_answer}
 use Rattle.exif_formats.specs.Jxl.{jxl_answer}
 use Rattle.exif_formats.specs.Raf.{behind_limit, raf_answer}
 use Rattle.exif_formats.specs.Pictures.{png_data}
 use Rattle.exif_reader.specs.Files.{ReadsContainer}
-use Rattle.exif_reader.specs.Readings.{ReadsAs}
+use Rattle.exif_tiff.specs.Readings.{ReadsAs}
 use Rattle.exif_change.specs.Reading.{entry_limit}
 
 abbrev pub items_of : Vec ℕ Global → List ℕ

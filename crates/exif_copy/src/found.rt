@@ -3,7 +3,7 @@
 ghost use Rattle.std.specs.Prelude.{◌≡◌, true, Some};
 ghost use Rattle.exif_types.specs.Refusals.{Gives, refusal_of};
 ghost use Rattle.exif_tiff.specs.Answers.{raw_answer};
-ghost use Rattle.exif_reader.specs.Readings.{ReadsAs};
+ghost use Rattle.exif_tiff.specs.Readings.{ReadsAs};
 ghost use Rattle.exif_containers.specs.Container.{container_answer, data_of};
 ghost use Rattle.exif_formats.specs.Jxl.{jxl_answer};
 ghost use Rattle.exif_formats.specs.Raf.{raf_answer};
@@ -15,8 +15,8 @@ use exif::{Counted, Error, Exif, Reader};
 use exif_change::ENTRY_LIMIT;
 use exif_containers::container::SNIFF_LEN;
 use exif_containers::exif_attr_of_stream;
+use exif_containers::png::get_exif_attr_from_png;
 use exif_formats::jxl::get_exif_attr_from_jxl;
-use exif_formats::png::get_exif_attr_from_png;
 use exif_formats::raw::raf;
 use exif_formats::{PictureFormat, format_of};
 use std::alloc::Global;

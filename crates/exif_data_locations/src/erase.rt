@@ -16,8 +16,8 @@ use exif_edit_base::limit::check_limit;
 use exif_edit_base::read::{locate, order_named, reads_as};
 use exif_edit_base::{EntryOffset, Error, Located};
 use exif_locations::Unread;
-use exif_reader::stop::Stop;
-use exif_reader::tiff::Parsed;
+use exif_tiff::stop::Stop;
+use exif_tiff::tiff::Parsed;
 use exif_types::Field;
 use std::alloc::{AllocError, Global};
 

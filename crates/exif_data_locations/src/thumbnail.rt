@@ -15,8 +15,8 @@ use exif_edit_base::patch::Span;
 use exif_edit_base::read::{read, reads_as};
 use exif_inventory::{Kind, Part, inventory};
 use exif_locations::Unread;
-use exif_reader::stop::Stop;
-use exif_reader::tiff::Parsed;
+use exif_tiff::stop::Stop;
+use exif_tiff::tiff::Parsed;
 use exif_types::{Context, Field};
 use std::alloc::{AllocError, Global};
 

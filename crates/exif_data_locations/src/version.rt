@@ -9,8 +9,8 @@ ghost use Rattle.exif_edit_base.specs.Readings.{read_of};
 
 use crate::gps::erase_gps;
 use exif_edit_base::read::read;
-use exif_reader::stop::Stop;
-use exif_reader::tiff::Parsed;
+use exif_tiff::stop::Stop;
+use exif_tiff::tiff::Parsed;
 use exif_types::{Context, Field};
 use std::alloc::{AllocError, Global};
 

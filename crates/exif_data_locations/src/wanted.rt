@@ -8,7 +8,7 @@ ghost use Rattle.exif_tiff.specs.Trace.{entry_value};
 use crate::field::held_in;
 use exif_base::{BigEndian, LittleEndian, Order};
 use exif_edit_base::EntryOffset;
-use exif_reader::directory::entry_value;
+use exif_tiff::directory::entry_value;
 use exif_types::{Field, Value};
 use std::alloc::{AllocError, Global};
 

@@ -9,7 +9,7 @@ use Rattle.std.proofs.Math.Bool.{or-false, and-false}
 use Rattle.exif_base.specs.Bytes.{Reading, number_at, spaced}
 use Rattle.exif_text.specs.FieldTypes.{type_of, known_length}
 use Rattle.exif_tiff.specs.Footprint.{Stretch, value_stretch}
-use Rattle.exif_reader.proofs.ParserRuns.{spaced_step}
+use Rattle.exif_tiff.proofs.ParserRuns.{spaced_step}
 use Rattle.exif_edit_base.specs.Patches.{FitsIn}
 use Rattle.exif_edit_base.specs.declared.patch.Patch.{Patch}
 use Rattle.exif_edit_base.specs.declared.patch.Span.{Span}

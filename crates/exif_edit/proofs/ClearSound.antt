@@ -26,7 +26,7 @@ use Rattle.exif_edit_base.proofs.CauseSteps.{bound, data_read, ok_same}
 use Rattle.exif_edit_base.proofs.PatchSteps.{length-put_at, put_before, put_on, put_zero}
 use Rattle.exif_edit_base.proofs.ReadSteps.{header_space}
 use Rattle.exif_edit.specs.Clearing.{IsCleared, clear_patches, clearing, empty_offset}
-use Rattle.exif_reader.proofs.TiffAnswers.{raw_right}
+use Rattle.exif_tiff.proofs.TiffAnswers.{raw_right}
 
 -- ---- numbers by their bytes
 

@@ -5,8 +5,8 @@ use Rattle.exif_base.specs.Bytes.{Reading, spaced}
 use Rattle.exif_base.specs.Orders.{number_of, order_named}
 use Rattle.exif_base.specs.declared.endian.Order.{Order}
 use Rattle.exif_types.specs.declared.field.Field.{Field}
-use Rattle.exif_reader.specs.declared.stop.Stop.{Stop}
-use Rattle.exif_reader.specs.declared.stop.Stop.TheVariants as stop
+use Rattle.exif_tiff.specs.declared.stop.Stop.{Stop}
+use Rattle.exif_tiff.specs.declared.stop.Stop.TheVariants as stop
 use Rattle.exif_edit_base.specs.Causes.{Becomes, Fails}
 use Rattle.exif_edit_base.specs.Patches.{zeros_over}
 use Rattle.exif_edit_base.specs.GpsOffsets.{gps_offsets}
@@ -15,7 +15,7 @@ use Rattle.exif_edit_base.specs.declared.error.Error.{Error}
 use Rattle.exif_edit_base.specs.declared.patch.Patch.{Patch}
 use Rattle.exif_edit_base.specs.declared.patch.Span.{Span}
 use Rattle.exif_edit.specs.Erasing.{cleared, directory_spans, erase_patches, gps_spans, kept, without_gps}
-use Rattle.exif_reader.proofs.ParserRuns.{spaced_step}
+use Rattle.exif_tiff.proofs.ParserRuns.{spaced_step}
 
 -- one of the entries that are left
 pub value_on : (span : ℕ → Span) (at' n i : ℕ) (out new all : List Patch) → i < n

@@ -17,7 +17,7 @@ use Rattle.exif_tiff.specs.declared.fault.Fault.TheVariants.{DataTooLarge, Trunc
 use Rattle.exif_edit_base.specs.Readings.{Read, fault_eq, is_little, read_eq, reading, reads_as}
 use Rattle.exif_edit_base.proofs.ReadSteps.{reading_by}
 use Rattle.exif_edit.specs.Promises.{ReadAs}
-use Rattle.exif_reader.proofs.TiffAnswers.{raw_right, trace_right}
+use Rattle.exif_tiff.proofs.TiffAnswers.{raw_right, trace_right}
 
 -- ---- the tests decide
 

@@ -16,8 +16,8 @@ use Rattle.exif_tiff.specs.Trace.{directory_end, whole_entries}
 use Rattle.exif_tiff.specs.declared.fault.Fault.{Fault}
 use Rattle.exif_layout.specs.Encoding.{spelled}
 use Rattle.exif_layout.proofs.Images.Standing.{length_spelled}
-use Rattle.exif_reader.specs.declared.stop.Stop.{Stop}
-use Rattle.exif_reader.specs.declared.stop.Stop.TheVariants as stop
+use Rattle.exif_tiff.specs.declared.stop.Stop.{Stop}
+use Rattle.exif_tiff.specs.declared.stop.Stop.TheVariants as stop
 use Rattle.exif_edit_base.specs.Causes.{Becomes, Fails, no_field, offset_named}
 use Rattle.exif_edit_base.specs.Locations.{located}
 use Rattle.exif_edit_base.specs.Readings.{Read, ReadsTo, reading}
@@ -32,7 +32,7 @@ use Rattle.exif_edit.specs.Setting.{names_offsets}
 use Rattle.exif_edit.proofs.SetSound.{length-padded}
 use Rattle.exif_tiff.specs.declared.offset.EntryOffset.{EntryOffset}
 use Rattle.exif_tiff.proofs.VisitBound.{length-spaced}
-use Rattle.exif_reader.proofs.ParserRuns.{spaced_step}
+use Rattle.exif_tiff.proofs.ParserRuns.{spaced_step}
 
 -- ---- entries that pass a test
 

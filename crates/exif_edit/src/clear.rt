@@ -11,7 +11,7 @@ use exif_base::{BigEndian, Endian, Items, LittleEndian, Order};
 use exif_edit_base::Error;
 use exif_edit_base::patch::{Patch, Span, zeros};
 use exif_layout::item::spelled_u32;
-use exif_reader::tiff::header;
+use exif_tiff::tiff::header;
 use std::alloc::{AllocError, Global};
 
 // The offset of the directory of the chain in data of a length: behind the header, if there is

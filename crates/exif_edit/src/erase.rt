@@ -21,8 +21,8 @@ use exif_edit_base::patch::{Patch, Span, zeros};
 use exif_edit_base::plan::{Plan, Wanted, carry_out, try_on_copy};
 use exif_edit_base::read::{locate, number16, number32, order_named, read};
 use exif_edit_base::{Error, Located};
-use exif_reader::stop::Stop;
-use exif_reader::tiff::Parsed;
+use exif_tiff::stop::Stop;
+use exif_tiff::tiff::Parsed;
 use exif_types::{Context, Field, FieldType};
 use std::alloc::{AllocError, Global};
 

@@ -27,9 +27,9 @@ use exif_edit_base::read::{locate, number16, order_named, read};
 use exif_edit_base::spans::value_span;
 use exif_edit_base::{EntryOffset, Error, Located};
 use exif_layout::item::{spelled_u16, spelled_u32};
-use exif_reader::directory::directory_end;
-use exif_reader::stop::Stop;
-use exif_reader::tiff::Parsed;
+use exif_tiff::directory::directory_end;
+use exif_tiff::stop::Stop;
+use exif_tiff::tiff::Parsed;
 use exif_types::{Field, In, Tag, Value};
 use std::alloc::{AllocError, Global};
 

@@ -16,8 +16,8 @@ use Rattle.exif_types.specs.declared.field.Field.{Field}
 use Rattle.exif_tiff.specs.Trace.{Node, entry_of, header, ordered_trace, trace, fields_of, faults_of, located_of}
 use Rattle.exif_tiff.specs.declared.offset.EntryOffset.{EntryOffset}
 use Rattle.exif_tiff.specs.declared.fault.Fault.{Fault}
-use Rattle.exif_reader.specs.declared.stop.Stop.{Stop}
-use Rattle.exif_reader.specs.declared.stop.Stop.TheVariants as stop
+use Rattle.exif_tiff.specs.declared.stop.Stop.{Stop}
+use Rattle.exif_tiff.specs.declared.stop.Stop.TheVariants as stop
 use Rattle.exif_edit_base.specs.Causes.{Becomes, Fails, no_field}
 use Rattle.exif_edit_base.specs.Finding.{IsLastAt, find_answer, last_located, replaced, with_value}
 use Rattle.exif_edit_base.specs.Locations.{Located, located}

@@ -1,7 +1,7 @@
 -- The offsets that were noted are found.
 use Rattle.std.proofs.Common.{◌≡◌, ℕ, List, ap, ◌∙◌}
 use Rattle.exif_tiff.specs.Trace.{trace}
-use Rattle.exif_reader.specs.Noted.{Noted, TellsOffsets}
+use Rattle.exif_tiff.specs.Noted.{Noted, TellsOffsets}
 use Rattle.exif_edit_base.specs.Locations.{directory_offsets, gps_of, visited_gps, located}
 use Rattle.exif_edit_base.specs.Walked.{Finds}
 

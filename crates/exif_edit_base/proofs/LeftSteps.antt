@@ -5,8 +5,8 @@ use Rattle.std.specs.List.{filter, flat_map, list_any}
 use Rattle.exif_base.specs.Bytes.{Reading}
 use Rattle.exif_base.specs.declared.endian.Order.{Order}
 use Rattle.exif_base.specs.Orders.{number_of, order_named}
-use Rattle.exif_reader.specs.declared.stop.Stop.{Stop}
-use Rattle.exif_reader.specs.declared.stop.Stop.TheVariants as stop
+use Rattle.exif_tiff.specs.declared.stop.Stop.{Stop}
+use Rattle.exif_tiff.specs.declared.stop.Stop.TheVariants as stop
 use Rattle.exif_edit_base.specs.Causes.{Becomes, Fails}
 use Rattle.exif_edit_base.specs.GpsOffsets.{all_directories, gps_offsets, gps_pointers, is_full, is_left, left_pointers, leftovers, max_directories, meets_limit, pointers}
 use Rattle.exif_edit_base.specs.declared.offsets.Target.TheVariants.{Gps}

@@ -6,7 +6,7 @@ use Rattle.std.proofs.lemmas.Bool.Decides.{nat_tests}
 use Rattle.std.proofs.lemmas.List.{append-nil}
 use Rattle.std.proofs.Math.Bool.{and-false}
 use Rattle.exif_base.specs.Bytes.{Reading, number_at, spaced}
-use Rattle.exif_reader.proofs.ParserRuns.{spaced_step}
+use Rattle.exif_tiff.proofs.ParserRuns.{spaced_step}
 use Rattle.exif_edit_base.specs.GpsOffsets.{all_noted, chain_from, children_from, fitting, is_new, is_offset_type, max_pointers, next_offset, offset_len, offsets_in, pointers, pointers_in, points_to, type_at}
 use Rattle.exif_edit_base.specs.declared.offsets.Target.{Target}
 use Rattle.exif_edit_base.specs.declared.offsets.Target.TheVariants.{Child}

@@ -12,10 +12,10 @@ use Rattle.exif_tiff.specs.declared.fault.Fault.{Fault}
 use Rattle.exif_tiff.specs.declared.fault.Fault.TheVariants.{DataTooLarge, TruncatedHeader, InvalidByteOrder, InvalidFortyTwo}
 use Rattle.exif_tiff.specs.Trace.{content_of, limited, header, order_of, ordered_trace, fields_of, faults_of}
 use Rattle.exif_tiff.specs.Answers.{Answer, Refused, Whole, Partial, answer_of, raw_answer, shown}
-use Rattle.exif_reader.specs.Results.{Says, SaysOrder}
-use Rattle.exif_reader.specs.declared.tiff.Parsed.{Parsed}
-use Rattle.exif_reader.specs.declared.stop.Stop.{Stop}
-use Rattle.exif_reader.specs.declared.stop.Stop.TheVariants as stop
+use Rattle.exif_tiff.specs.Results.{Says, SaysOrder}
+use Rattle.exif_tiff.specs.declared.tiff.Parsed.{Parsed}
+use Rattle.exif_tiff.specs.declared.stop.Stop.{Stop}
+use Rattle.exif_tiff.specs.declared.stop.Stop.TheVariants as stop
 use Rattle.exif_edit_base.specs.Readings.{Read, is_little, reading, ReadsTo}
 
 -- the fields and the faults that an answer shows; a refusal shows none

@@ -6,8 +6,8 @@ use Rattle.exif_types.specs.declared.error.Error.TheVariants as failure
 use Rattle.exif_types.specs.Refusals.{Refusal, refusal_of}
 use Rattle.exif_tiff.specs.Faults.{text_of}
 use Rattle.exif_tiff.specs.declared.fault.Fault.{Fault}
-use Rattle.exif_reader.specs.declared.stop.Stop.{Stop}
-use Rattle.exif_reader.specs.declared.stop.Stop.TheVariants as stop
+use Rattle.exif_tiff.specs.declared.stop.Stop.{Stop}
+use Rattle.exif_tiff.specs.declared.stop.Stop.TheVariants as stop
 use Rattle.exif_edit_base.specs.declared.error.Error.{Error}
 use Rattle.exif_edit_base.specs.declared.error.Error.TheVariants as error
 

@@ -10,9 +10,9 @@ use Rattle.exif_types.specs.declared.field.Field.{Field}
 use Rattle.exif_tiff.specs.Trace.{header, ordered_trace, fields_of, faults_of}
 use Rattle.exif_tiff.specs.declared.fault.Fault.{Fault}
 use Rattle.exif_tiff.specs.declared.fault.Fault.TheVariants.{DataTooLarge, TruncatedHeader, InvalidByteOrder, InvalidFortyTwo, TruncatedCount, TruncatedDirectory, TruncatedNextOffset, TruncatedValue, InvalidPointer, UnexpectedNext, TooManyDirectories, TooManyEntries}
-use Rattle.exif_reader.specs.declared.tiff.Parsed.{Parsed}
-use Rattle.exif_reader.specs.declared.stop.Stop.{Stop}
-use Rattle.exif_reader.specs.declared.stop.Stop.TheVariants as stop
+use Rattle.exif_tiff.specs.declared.tiff.Parsed.{Parsed}
+use Rattle.exif_tiff.specs.declared.stop.Stop.{Stop}
+use Rattle.exif_tiff.specs.declared.stop.Stop.TheVariants as stop
 
 -- the byte order, the fields and the soft faults
 pub record Read : Type 0 where

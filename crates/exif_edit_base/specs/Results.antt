@@ -1,7 +1,7 @@
 -- How a located reading says an answer.
 use Rattle.std.specs.Prelude.{Result, Ok, Err}
-use Rattle.exif_reader.specs.declared.stop.Stop.{Stop}
-use Rattle.exif_reader.specs.declared.tiff.Parsed.{Parsed}
+use Rattle.exif_tiff.specs.declared.stop.Stop.{Stop}
+use Rattle.exif_tiff.specs.declared.tiff.Parsed.{Parsed}
 use Rattle.exif_edit_base.specs.declared.walk.Located.{Located}
 
 -- what was read, without its offsets

@@ -3,8 +3,8 @@
 ghost use Rattle.std.specs.Prelude.{◌≡◌};
 ghost use Rattle.exif_edit_base.specs.declared.error.Error.TheVariants.{OutOfMemory, Header};
 
-use exif_reader::stop::Stop;
 use exif_tiff::Fault;
+use exif_tiff::stop::Stop;
 use std::alloc::{AllocError, AllocFailed};
 use std::fmt;
 

@@ -11,8 +11,8 @@ ghost use Rattle.exif_edit_base.specs.declared.find.Found.{Found};
 use crate::error::Error;
 use crate::read::locate;
 use crate::walk::{Located, Walk};
-use exif_reader::tiff::Parsed;
 use exif_tiff::EntryOffset;
+use exif_tiff::tiff::Parsed;
 use exif_types::{Field, In, Tag};
 use std::alloc::Global;
 

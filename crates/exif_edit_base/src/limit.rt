@@ -6,9 +6,9 @@ ghost use Rattle.exif_edit_base.specs.Causes.{Makes};
 ghost use Rattle.exif_edit_base.specs.EntryLimit.{has_more, is_limit_fault, within_limit};
 
 use crate::error::Error;
-use exif_reader::stop::Stop;
-use exif_reader::tiff::parse;
 use exif_tiff::Fault;
+use exif_tiff::stop::Stop;
+use exif_tiff::tiff::parse;
 use std::alloc::{AllocError, Global};
 
 // Whether a fault is that of a limit.

@@ -11,7 +11,7 @@ ghost use Rattle.exif_edit_base.specs.GpsOffsets.{all_directories, all_noted, ch
 
 use crate::read::{number16, number32};
 use exif_base::{BigEndian, LittleEndian, Order};
-use exif_reader::directory;
+use exif_tiff::directory;
 use std::alloc::{AllocError, Global};
 
 /// At most so many directories are followed.

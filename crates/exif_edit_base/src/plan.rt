@@ -9,7 +9,7 @@ use crate::Error;
 use crate::patch::{Patch, exchange, patched, put_back};
 use crate::read::reads_as;
 use crate::reread::{clears, still_reads};
-use exif_reader::tiff::Parsed;
+use exif_tiff::tiff::Parsed;
 use std::alloc::{AllocError, Global};
 
 /// How edited data must be read.

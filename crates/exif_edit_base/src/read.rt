@@ -10,9 +10,9 @@ ghost use Rattle.exif_edit_base.specs.Readings.{ReadsTo, fault_eq, read_of, read
 
 use crate::walk::{Located, read_located};
 use exif_base::{BigEndian, Endian, LittleEndian, Order};
-use exif_reader::stop::Stop;
-use exif_reader::tiff::{Parsed, parse};
 use exif_tiff::Fault;
+use exif_tiff::stop::Stop;
+use exif_tiff::tiff::{Parsed, parse};
 use std::alloc::{AllocError, Global};
 
 /// Reads data leniently.

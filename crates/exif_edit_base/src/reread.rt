@@ -5,8 +5,8 @@ ghost use Rattle.exif_edit_base.specs.Readings.{read_of};
 ghost use Rattle.exif_edit_base.specs.Rereading.{clears, still_reads, field_at_entry, without_entry_offsets};
 
 use crate::read::read;
-use exif_reader::stop::Stop;
-use exif_reader::tiff::Parsed;
+use exif_tiff::stop::Stop;
+use exif_tiff::tiff::Parsed;
 use exif_types::{Field, Value};
 use std::alloc::{AllocError, Global};
 

@@ -2,14 +2,14 @@
 
 ghost use Rattle.std.specs.Prelude.{◌≡◌, ◌++◌, None, true, IfOk, OnOk};
 ghost use Rattle.exif_tiff.specs.Answers.{raw_answer};
-ghost use Rattle.exif_reader.specs.Results.{AsksMemory, Says, SaysOrder};
+ghost use Rattle.exif_tiff.specs.Results.{AsksMemory, Says, SaysOrder};
 ghost use Rattle.exif_edit_base.specs.Locations.{gps_of, gps_offset};
 ghost use Rattle.exif_edit_base.specs.Results.{parsed_of};
 ghost use Rattle.exif_edit_base.specs.Walked.{Finds};
 
-use exif_reader::offsets::Offsets;
-use exif_reader::stop::Stop;
-use exif_reader::tiff::{Parsed, parse_located};
+use exif_tiff::offsets::Offsets;
+use exif_tiff::stop::Stop;
+use exif_tiff::tiff::{Parsed, parse_located};
 use exif_tiff::{DirectoryOffset, EntryOffset};
 use exif_types::Context;
 use std::alloc::{AllocError, Global};

@@ -13,7 +13,7 @@ use Rattle.exif_containers.specs.GoingBack.{BeginsAt}
 use Rattle.exif_containers.specs.declared.container.Format.{Format}
 use Rattle.exif_containers.specs.declared.container.Format.TheVariants as known
 use Rattle.exif_containers.proofs.ContainerSteps.{begins_there, head-first}
-use Rattle.exif_formats.specs.Png.{begins_png}
+use Rattle.exif_containers.specs.Png.{begins_png}
 use Rattle.exif_formats.specs.Cr3.{begins_cr3}
 use Rattle.exif_formats.specs.Raf.{begins_raf}
 use Rattle.exif_formats.specs.Formats.{begins_jpeg_xl, begins_orf, begins_rw2, format_in, known_as, known_or, other_format_in}

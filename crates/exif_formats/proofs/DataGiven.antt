@@ -7,11 +7,11 @@ use Rattle.exif_types.specs.Failures.{Failure}
 use Rattle.exif_types.specs.declared.error.Error.TheVariants as error
 use Rattle.exif_tiff.specs.Answers as tiff
 use Rattle.exif_reader.specs.Files.{ReadsByNeed, ReadsContainer}
-use Rattle.exif_reader.specs.Readings.{ReadsAs}
+use Rattle.exif_tiff.specs.Readings.{ReadsAs}
 use Rattle.exif_reader.proofs.ReaderFronts.{whole_by_need}
 use Rattle.exif_reader.proofs.ReaderOwnData.{given_reads}
 use Rattle.exif_formats.specs.Jxl.{jxl_answer}
-use Rattle.exif_formats.specs.Png.{png_answer}
+use Rattle.exif_containers.specs.Png.{png_answer}
 use Rattle.exif_formats.specs.Cr3.{Cr3Parts, cr3_answer}
 use Rattle.exif_formats.specs.Raf.{raf_answer}
 use Rattle.exif_formats.specs.Formats.{format_in}

@@ -8,9 +8,9 @@ use Rattle.exif_types.specs.Sound.{IsRead}
 use Rattle.exif_types.specs.declared.field.Field.{Field}
 use Rattle.exif_tiff.specs.Answers.{Answer, Partial, Refused, raw_answer, shown}
 use Rattle.exif_tiff.specs.declared.fault.Fault.{Fault}
-use Rattle.exif_reader.specs.Results.{Says}
-use Rattle.exif_reader.specs.declared.stop.Stop.{Stop}
-use Rattle.exif_reader.specs.declared.tiff.Parsed.{Parsed}
+use Rattle.exif_tiff.specs.Results.{Says}
+use Rattle.exif_tiff.specs.declared.stop.Stop.{Stop}
+use Rattle.exif_tiff.specs.declared.tiff.Parsed.{Parsed}
 use Rattle.exif_formats.specs.Cr3.{Cr3Parts}
 use Rattle.exif_formats.specs.Pictures.{answer_in, directories_answer, field_in, joined, joined_with}
 

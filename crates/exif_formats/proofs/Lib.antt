@@ -2,8 +2,6 @@ pub mod DataGiven
 pub mod Joined
 pub mod Begins
 pub mod PictureLaws
-pub mod PngChunks
-pub mod LawsPng
 pub mod BoxSteps
 pub mod LawsJxl
 pub mod ReadSteps

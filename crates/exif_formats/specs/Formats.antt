@@ -5,7 +5,7 @@ use Rattle.exif_containers.specs.Container as container
 use Rattle.exif_containers.specs.declared.container.Format.{Format}
 use Rattle.exif_containers.specs.declared.container.Format.TheVariants as known
 use Rattle.exif_formats.specs.Jxl.{begins_codestream, begins_jxl}
-use Rattle.exif_formats.specs.Png.{begins_png}
+use Rattle.exif_containers.specs.Png.{begins_png}
 use Rattle.exif_formats.specs.Cr3.{begins_cr3}
 use Rattle.exif_formats.specs.Raf.{begins_raf}
 use Rattle.exif_formats.specs.declared.format.PictureFormat.{PictureFormat}

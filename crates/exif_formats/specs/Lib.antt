@@ -4,10 +4,6 @@ pub mod Formats
 pub mod Laws
 pub mod Magic
 pub mod Pictures
-pub mod Png
-pub mod PngGrammar
-pub mod PngSteps
-pub mod PngExamples
 pub mod Jxl
 pub mod JxlSteps
 pub mod JxlGrammar

@@ -11,9 +11,9 @@ use Rattle.exif_containers.specs.Container.{answer_as, data_of}
 use Rattle.exif_containers.specs.declared.container.Format.{Format}
 use Rattle.exif_containers.specs.declared.container.Format.TheVariants as known
 use Rattle.exif_reader.specs.Files.{ReadsByNeed}
-use Rattle.exif_reader.specs.Readings.{HoldsData, ReadsHeld}
+use Rattle.exif_tiff.specs.Readings.{HoldsData, ReadsHeld}
 use Rattle.exif_formats.specs.Jxl.{jxl_answer}
-use Rattle.exif_formats.specs.Png.{png_answer}
+use Rattle.exif_containers.specs.Png.{png_answer}
 use Rattle.exif_formats.specs.Cr3.{Cr3Parts, cr3_answer}
 use Rattle.exif_formats.specs.Raf.{raf_answer}
 use Rattle.exif_formats.specs.Formats.{format_in}

@@ -4,10 +4,10 @@ ghost use Rattle.std.specs.Prelude.{◌≡◌};
 ghost use Rattle.exif_formats.specs.Formats.{begins_jpeg_xl, begins_orf, begins_rw2, format_in, format_name, known_as, other_format_in};
 
 use crate::jxl::{is_codestream, is_jxl};
-use crate::png::is_png;
 use crate::raw::cr3::is_cr3;
 use crate::raw::raf::is_raf;
 use exif_containers::container::{self, Format};
+use exif_containers::png::is_png;
 
 /// A format of pictures.
 #[derive(Clone, Copy, Debug, PartialEq, Eq)]

@@ -12,7 +12,6 @@ pub mod laws;
 mod magic;
 mod options;
 mod picture;
-pub mod png;
 pub mod raw;
 
 pub use format::{PictureFormat, format_of};

@@ -19,7 +19,7 @@ use Rattle.exif_types.specs.declared.tag.Tag.{Tag}
 use Rattle.exif_types.specs.declared.value.Value.{Value}
 use Rattle.exif_tiff.specs.Trace.{Found, Met, Node, Opens, Visit, entry_of, header, located_of, ordered_trace}
 use Rattle.exif_tiff.specs.declared.offset.EntryOffset.{EntryOffset}
-use Rattle.exif_reader.proofs.TiffAnswers.{trace_right}
+use Rattle.exif_tiff.proofs.TiffAnswers.{trace_right}
 use Rattle.exif_edit_base.specs.Causes.{Cause, no_field, of_data, or_cause, ◌>>=◌}
 use Rattle.exif_edit_base.specs.Finding.{IsLastAt, find_answer, last_located}
 use Rattle.exif_edit_base.specs.Locations.{Located, located}

@@ -10,8 +10,8 @@ use Rattle.exif_types.specs.declared.tag.Tag.{Tag}
 use Rattle.exif_types.specs.declared.value.Value.{Value}
 use Rattle.exif_types.specs.declared.field.Field.{Field}
 use Rattle.exif_layout.specs.Refused.{is_unknown}
-use Rattle.exif_reader.specs.declared.stop.Stop.{Stop}
-use Rattle.exif_reader.specs.declared.stop.Stop.TheVariants as stop
+use Rattle.exif_tiff.specs.declared.stop.Stop.{Stop}
+use Rattle.exif_tiff.specs.declared.stop.Stop.TheVariants as stop
 use Rattle.exif_edit_base.specs.Causes.{Becomes, Cause, Fails, no_directory, offset_named, unknown_type, ◌>>=◌}
 use Rattle.exif_edit_base.specs.Readings.{Read, ReadsTo, reading}
 use Rattle.exif_edit_base.specs.declared.error.Error.{Error}

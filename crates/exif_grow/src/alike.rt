@@ -18,7 +18,7 @@ use exif_edit_base::patch::{Patch, zeros};
 use exif_edit_base::read::order_named;
 use exif_edit_base::spans::value_span;
 use exif_edit_base::{EntryOffset, Error};
-use exif_reader::tiff::Parsed;
+use exif_tiff::tiff::Parsed;
 use exif_types::{Field, In, Tag, Value};
 use std::alloc::{AllocError, Global};
 

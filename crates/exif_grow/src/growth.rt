@@ -10,7 +10,7 @@ ghost use Rattle.exif_grow.specs.Growing.{added_of, aligned, first_read, grown};
 use exif_edit_base::Error;
 use exif_edit_base::patch::{Patch, patched};
 use exif_edit_base::read::reads_as;
-use exif_reader::tiff::Parsed;
+use exif_tiff::tiff::Parsed;
 use std::alloc::{AllocError, Global};
 
 /// How data grow: [`grown`] makes the new data of it. A program that writes into a file appends the

@@ -28,7 +28,7 @@ use exif_edit_base::Error;
 use exif_edit_base::patch::{Patch, Span};
 use exif_edit_base::read::{order_named, read};
 use exif_layout::item::{spelled_u16, spelled_u32};
-use exif_reader::tiff::Parsed;
+use exif_tiff::tiff::Parsed;
 use exif_types::{Field, In, Tag, Value};
 use std::alloc::{AllocError, Global};
 

@@ -14,8 +14,8 @@ use exif_edit_base::Error;
 use exif_edit_base::find::is_named;
 use exif_edit_base::read::{read, same_faults};
 use exif_edit_base::reread::forget_entry_offsets;
-use exif_reader::stop::Stop;
-use exif_reader::tiff::Parsed;
+use exif_tiff::stop::Stop;
+use exif_tiff::tiff::Parsed;
 use exif_types::{Field, In, Tag};
 use std::alloc::{AllocError, Global};
 

@@ -1,9 +1,8 @@
 -- What is promised of reading an image.
-use Rattle.std.specs.Prelude.{ℕ, ◌<◌, ◌≡◌, nat_lt, Bool, true, false, List, [], ◌∷◌, length, None, Ok}
+use Rattle.std.specs.Prelude.{ℕ, ◌<◌, ◌≡◌, nat_lt, Bool, true, false, List, [], ◌∷◌, length, None}
 use Rattle.std.specs.List.{filter}
 use Rattle.exif_base.specs.declared.endian.Order.{Order}
 use Rattle.exif_types.specs.declared.field.Field.{Field}
-use Rattle.exif_containers.specs.Container.{container_answer}
 use Rattle.exif_tiff.specs.declared.fault.Fault.TheVariants.{TooManyDirectories}
 use Rattle.exif_tiff.specs.Answers.{Whole, Partial, Refused, raw_answer}
 use Rattle.exif_layout.specs.Groups.{Group}
@@ -26,7 +25,3 @@ ReadsFirstEight order groups = 8 < length groups
     → (raw_answer true None (image order groups)
     ≡ Partial (first_eight (flat groups)) (TooManyDirectories ∷ []))
     × (raw_answer false None (image order groups) ≡ Refused TooManyDirectories)
-
--- an image is its own container, so that it is read through a file as well
-abbrev pub ContainsItself : List ℕ → Type 0
-ContainsItself image = container_answer image ≡ Ok image

@@ -1,7 +1,7 @@
 -- What the calls on PNG files answer, from their clauses.
 use Rattle.std.proofs.Common.{◌≡◌, ℕ, ◌-◌, ◌^◌, List, [], ◌∷◌, ◌++◌, take, Option, None, Some, Result, Ok, Err, Vec, Global, IfOk, IfErr, MatchOption, Contains, ap, sym, subst, ◌∙◌}
 use Rattle.exif_formats.specs.Pictures.{png_data}
-use Rattle.exif_formats.specs.Png.{png_answer}
+use Rattle.exif_containers.specs.Png.{png_answer}
 use Rattle.exif_containers.specs.Container.{data_of}
 use Rattle.exif_rewrite_png.specs.Faults.{rewriting_refusals}
 use Rattle.exif_rewrite_png.specs.RewrittenPng.{png_rewriting}

@@ -3,7 +3,7 @@ use Rattle.std.proofs.Common.{◌≡◌, ℕ, Bool, true, false, ◌&&◌, not, 
 use Rattle.std.proofs.lemmas.Slice.Eq.{bytes_eq-Decides}
 use Rattle.std.specs.Str.{bytes_eq}
 use Rattle.exif_inventory.specs.declared.part.Part.{Part}
-use Rattle.exif_formats.specs.Png.{begins_png}
+use Rattle.exif_containers.specs.Png.{begins_png}
 use Rattle.exif_privacy.specs.Chunks.{is_changed, is_chunk, mended, part_bytes, part_mended, parts_mended, with_crc}
 
 -- bytes are themselves

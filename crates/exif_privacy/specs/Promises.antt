@@ -4,7 +4,7 @@ use Rattle.std.specs.List.{All, Contains, list_any}
 use Rattle.exif_inventory.specs.declared.kind.Kind.{Kind}
 use Rattle.exif_inventory.specs.declared.kind.Kind.TheVariants as kind
 use Rattle.exif_inventory.specs.declared.part.Part.{Part}
-use Rattle.exif_formats.specs.Png.{begins_png}
+use Rattle.exif_containers.specs.Png.{begins_png}
 use Rattle.exif_privacy.specs.Chunks.{in_crc}
 use Rattle.exif_privacy.specs.Data.{data_of}
 use Rattle.exif_privacy.specs.Erasing.{erased, stays_for}

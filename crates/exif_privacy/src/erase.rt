@@ -14,7 +14,7 @@ use crate::parts::parts_of;
 use crate::portions::{join, joined_len, put_back};
 use crate::reasons::Reasons;
 use crate::stays::{Stays, Why};
-use exif_formats::png::is_png;
+use exif_containers::png::is_png;
 use exif_inventory::{Kind, Part};
 use exif_locations::Unread;
 use std::alloc::{AllocError, Global};

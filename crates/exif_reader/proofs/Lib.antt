@@ -1,11 +1,3 @@
 pub mod LawsFiles
-pub mod ParserFollows
-pub mod ParserRuns
-pub mod ParserTurns
-pub mod OffsetsTold
-pub mod ReaderBounds
 pub mod ReaderFronts
 pub mod ReaderOwnData
-pub mod TiffAnswers
-pub mod TiffLimits
-pub mod TiffOutcomes

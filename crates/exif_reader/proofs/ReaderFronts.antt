@@ -27,7 +27,7 @@ use Rattle.exif_containers.specs.GoingBack.{BeginsAt}
 use Rattle.exif_containers.proofs.IsobmffFile.{along}
 use Rattle.exif_containers.proofs.ContainerSteps.{head-first}
 use Rattle.exif_reader.specs.Files.{AnswersOwnData, ReadsByNeed, ReadsContainer}
-use Rattle.exif_reader.specs.Readings.{HoldsData, HoldsFront, ReadsAs, ReadsHeld}
+use Rattle.exif_tiff.specs.Readings.{HoldsData, HoldsFront, ReadsAs, ReadsHeld}
 
 -- ---- known bytes
 

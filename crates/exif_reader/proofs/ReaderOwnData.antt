@@ -7,7 +7,7 @@ use Rattle.exif_types.specs.declared.error.Error.TheVariants as error
 use Rattle.exif_tiff.specs.Answers.{Answer}
 use Rattle.exif_containers.specs.Container.{container_answer}
 use Rattle.exif_reader.specs.Files.{AnswersOwnData, ReadsContainer}
-use Rattle.exif_reader.specs.Readings.{HoldsData, ReadsAs, ReadsHeld}
+use Rattle.exif_tiff.specs.Readings.{HoldsData, ReadsAs, ReadsHeld}
 
 -- what data in memory are read as, the data that came back are
 pub answers_own_data : (answer : List ℕ → Answer) (bytes : List ℕ) (result : Result ExifContents Failure) → ReadsAs (answer bytes) bytes result → AnswersOwnData answer result

@@ -7,7 +7,7 @@ use Rattle.exif_types.specs.Refusals.{Refusal, refusal_of, IsInterrupted, ◌>>=
 use Rattle.exif_types.specs.declared.error.Error.TheVariants as error
 use Rattle.exif_tiff.specs.Answers.{Answer, raw_answer, first_fault}
 use Rattle.exif_containers.specs.Container.{container_answer, container_refusals}
-use Rattle.exif_reader.specs.Readings.{HoldsData, HoldsFront, IsRefusal, ReadsAs, ReadsHeld}
+use Rattle.exif_tiff.specs.Readings.{HoldsData, HoldsFront, IsRefusal, ReadsAs, ReadsHeld}
 
 -- the answer of a file, or the refusal of its container
 abbrev pub file_answer : Bool → Option ℕ → List ℕ → Result Answer Refusal

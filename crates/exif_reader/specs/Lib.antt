@@ -1,9 +1,2 @@
-pub mod Bounds
 pub mod Files
-pub mod Noted
-pub mod Readings
-pub mod Results
-pub mod Running
 pub mod Sniffing
-pub mod StopErrors
-pub mod Stops

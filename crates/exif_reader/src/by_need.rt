@@ -8,11 +8,11 @@ ghost use Rattle.exif_types.specs.declared.error.Error.TheVariants.{OutOfMemory}
 ghost use Rattle.exif_tiff.specs.Answers.{Whole, raw_answer};
 ghost use Rattle.exif_tiff.specs.Trace.{header};
 
-use crate::stop::Stop;
-use crate::tiff::{Parsed, header, parse};
 use exif_base::{BigEndian, Endian, LittleEndian, Order, Source};
 use exif_segments::util::pass_over;
 use exif_tiff::laws::answers_show_what_was_read;
+use exif_tiff::stop::Stop;
+use exif_tiff::tiff::{Parsed, header, parse};
 use exif_types::Error;
 use std::alloc::Global;
 

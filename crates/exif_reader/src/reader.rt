@@ -10,20 +10,20 @@ ghost use Rattle.exif_tiff.specs.Answers.{Whole, raw_answer};
 ghost use Rattle.exif_tiff.specs.Trace.{header};
 ghost use Rattle.exif_containers.specs.Container.{answer_as, container_answer, format_in};
 ghost use Rattle.exif_containers.specs.GoingBack.{BeginsAt};
-ghost use Rattle.exif_reader.specs.Bounds.{ReportsAtMost};
+ghost use Rattle.exif_tiff.specs.Bounds.{ReportsAtMost};
 ghost use Rattle.exif_reader.specs.Files.{AnswersOwnData, ReadsByNeed, ReadsContainer};
 ghost use Rattle.exif_reader.specs.Sniffing.{has_io};
-ghost use Rattle.exif_reader.specs.Readings.{HoldsFront, ReadsAs, ReadsHeld};
+ghost use Rattle.exif_tiff.specs.Readings.{HoldsFront, ReadsAs, ReadsHeld};
 
 use crate::by_need::{FRONT, parse_front, pass_rest};
-use crate::bytes::show_bytes;
-use crate::tiff::{self, Parsed};
 use exif_base::{Blocks, Source};
 use exif_containers::container::{BLOCK, Format, SNIFF_LEN, format_of, read_signature};
 use exif_containers::{exif_attr_as, exif_attr_from};
 use exif_segments::util::{read_at_most, read_rest};
 use exif_tiff::Fault;
+use exif_tiff::bytes::show_bytes;
 use exif_tiff::laws::{a_front_may_say_all, answers_show_what_was_read, reading_is_bounded};
+use exif_tiff::tiff::{self, Parsed};
 use exif_types::{Error, Exif, exif_from_parts, partial_from_parts};
 use std::alloc::{AllocError, Global};
 use std::marker::Model;
@@ -52,7 +52,7 @@ pub struct Sniffed {
 }
 
 impl Model for Reader {
-    ghost use Rattle.exif_reader.specs.Readings.{Mode};
+    ghost use Rattle.exif_tiff.specs.Readings.{Mode};
 
     ghost Value = { Mode };
 

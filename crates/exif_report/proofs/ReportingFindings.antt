@@ -16,7 +16,7 @@ use Rattle.exif_tiff.specs.Faults.{text_of}
 use Rattle.exif_tiff.specs.declared.fault.Fault.{Fault}
 use Rattle.exif_containers.specs.Container.{container_refusals}
 use Rattle.exif_reader.specs.Files.{AnswersOwnData, ReadsByNeed, IsDataRefusal}
-use Rattle.exif_reader.specs.Readings.{IsRefusal}
+use Rattle.exif_tiff.specs.Readings.{IsRefusal}
 use Rattle.exif_report.specs.Lines.{field_line, fault_line, error_line}
 use Rattle.exif_report.specs.Reports.{Finds, FindsOwn, Holds, HoldsAnswer, Reports, ReportsSome, WritesWhole, IsRefusedAs, IsNamedRefusal, given_by, report_text, answer_text, fault_count}
 use Rattle.exif_base.proofs.Sent.{keeps_same, front_none}

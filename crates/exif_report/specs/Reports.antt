@@ -12,7 +12,7 @@ use Rattle.exif_tiff.specs.Faults.{text_of}
 use Rattle.exif_tiff.specs.declared.fault.Fault.{Fault}
 use Rattle.exif_containers.specs.Container.{container_refusals}
 use Rattle.exif_reader.specs.Files.{IsDataRefusal}
-use Rattle.exif_reader.specs.Readings.{IsRefusal}
+use Rattle.exif_tiff.specs.Readings.{IsRefusal}
 use Rattle.exif_report.specs.Lines.{field_line, fault_line}
 
 -- a line for each field, and then one for each fault

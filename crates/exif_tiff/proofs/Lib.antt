@@ -15,3 +15,11 @@ pub mod ReportBound
 pub mod SoftFaults
 pub mod VisitBound
 pub mod Visited
+pub mod OffsetsTold
+pub mod ParserFollows
+pub mod ParserRuns
+pub mod ParserTurns
+pub mod TiffAnswers
+pub mod TiffLimits
+pub mod TiffOutcomes
+pub mod ReadingBounds

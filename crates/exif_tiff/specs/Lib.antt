@@ -12,3 +12,10 @@ pub mod ReadAnswers
 pub mod SoftFaults
 pub mod Trace
 pub mod Visits
+pub mod Bounds
+pub mod Noted
+pub mod Readings
+pub mod Results
+pub mod Running
+pub mod Stops
+pub mod StopErrors

@@ -1,4 +1,5 @@
 pub mod Arranging
+pub mod Contained
 pub mod Counted
 pub mod Drafts
 pub mod Plans

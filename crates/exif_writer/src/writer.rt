@@ -14,7 +14,7 @@ ghost use Rattle.exif_layout.specs.ReadBack.{ReadsBack, ReadsFirstEight};
 ghost use Rattle.exif_layout.specs.Rewriting.{RewritesSame, RewritesInEachOrder, EqualByContents, OrdersAgree, LengthsAgree};
 ghost use Rattle.exif_layout.specs.Refused.{write_fault};
 ghost use Rattle.exif_layout.specs.WriteFaults.{write_refusal};
-ghost use Rattle.exif_layout.specs.ReadBack.{ContainsItself};
+ghost use Rattle.exif_writer.specs.Contained.{ContainsItself};
 ghost use Rattle.exif_layout.specs.Views.{blocks_of, grown};
 
 use crate::measure::write_fault;

@@ -3,7 +3,7 @@ use Rattle.exif_tiff.specs.Answers as tiff
 use Rattle.exif_tiff.specs.Answers.{raw_answer}
 use Rattle.exif_containers.specs.GoingBack.{BeginsAt}
 use Rattle.exif_formats.specs.Jxl.{jxl_answer}
-use Rattle.exif_formats.specs.Png.{png_answer}
+use Rattle.exif_containers.specs.Png.{png_answer}
 use Rattle.exif_formats.specs.Raf.{behind_limit, raf_answer}
 use Rattle.exif_reader.specs.declared.reader.Reader.{Reader}
 use Rattle.exif_formats.proofs.DataGiven.{by_data, by_raf, cr3_reads, jxl_reads, known_reads, png_data_reads, png_reads, raf_reads, read_so}

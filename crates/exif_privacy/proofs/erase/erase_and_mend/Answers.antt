@@ -1,6 +1,6 @@
 use Rattle.std.proofs.Common.{◌≡◌, true, List, ℕ, ap, sym, subst, ◌∙◌, arith}
 use Rattle.std.proofs.lemmas.Grind.{common_steps}
-use Rattle.exif_formats.specs.Png.{begins_png}
+use Rattle.exif_containers.specs.Png.{begins_png}
 use Rattle.exif_privacy.specs.Chunks.{parts_mended}
 use Rattle.exif_privacy.specs.Promises.{AllElseStays}
 use Rattle.exif_privacy.proofs.CrcSteps.{of_mended, of_others}

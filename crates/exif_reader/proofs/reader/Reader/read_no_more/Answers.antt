@@ -1,7 +1,7 @@
 use Rattle.std.proofs.Common.{false, [], Ok, rules, ap, arith}
 use Rattle.std.proofs.lemmas.Option.{IfSome_then}
 use Rattle.exif_tiff.specs.Answers.{raw_answer}
-use Rattle.exif_reader.proofs.ReaderBounds.{is_bounded, reads_bounded}
+use Rattle.exif_tiff.proofs.ReadingBounds.{is_bounded, reads_bounded}
 use Rattle.exif_reader.proofs.ReaderFronts.{own_too_large, reads_front, reads_own, reads_too_large}
 use Rattle.exif_reader.proofs.ReaderOwnData.{answers_own_data}
 use Rattle.exif_reader.proofs.reader.Reader.read_no_more.Goals as goal

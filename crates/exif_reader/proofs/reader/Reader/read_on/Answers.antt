@@ -2,7 +2,7 @@ use Rattle.std.proofs.Common.{Ok, Err}
 use Rattle.std.proofs.lemmas.Result.{err_from_is_err_and}
 use Rattle.exif_types.specs.Refusals.{IsInterrupted}
 use Rattle.exif_tiff.specs.Answers.{raw_answer}
-use Rattle.exif_reader.specs.Readings.{HoldsFront, ReadsHeld}
+use Rattle.exif_tiff.specs.Readings.{HoldsFront, ReadsHeld}
 use Rattle.exif_reader.proofs.ReaderFronts.{reads_all, told_rest}
 use Rattle.exif_reader.proofs.reader.Reader.read_on.Goals as goal
 

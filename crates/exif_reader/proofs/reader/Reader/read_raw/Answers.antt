@@ -1,4 +1,4 @@
-use Rattle.exif_reader.proofs.ReaderBounds.{is_bounded, reads_bounded}
+use Rattle.exif_tiff.proofs.ReadingBounds.{is_bounded, reads_bounded}
 use Rattle.exif_reader.proofs.reader.Reader.read_raw.Goals as goal
 
 pub returns-clause-bounded : goal.returns-clause-bounded

@@ -1,5 +1,0 @@
-use Rattle.std.proofs.Common.{rules}
-use Rattle.exif_reader.proofs.bytes.show_bytes.Goals as goal
-
-pub returns : goal.returns
-returns c i = let fits = c.type_inv.bytes i in search rules
