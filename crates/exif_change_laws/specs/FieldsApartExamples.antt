@@ -7,6 +7,7 @@ use Rattle.exif_tiff.specs.Trace.{ordered_trace, trace}
 use Rattle.exif_edit_base.specs.Locations.{located}
 use Rattle.exif_edit_base.specs.Causes.{shared}
 use Rattle.exif_edit_base.specs.Readings.{reading}
+use Rattle.exif_edit.specs.Examples.{sharing}
 use Rattle.exif_edit.specs.Removing.{field_answer, field_patches, named_removals}
 
 -- a width, and a description of 7 bytes behind the directory
@@ -33,16 +34,7 @@ erased : field_answer described (record { 0 = Tiff; 1 = 0x10e }) (record { 0 = 0
 unfolding field_patches named_removals reading located trace ordered_trace
 erased = refl
 
--- a description and a maker's name that share one encoded
-abbrev sharing : List ℕ
-sharing =
-    77 ∷ 77 ∷ 0 ∷ 42 ∷ 0 ∷ 0 ∷ 0 ∷ 8
-    ∷ 0 ∷ 2
-    ∷ 1 ∷ 14 ∷ 0 ∷ 2 ∷ 0 ∷ 0 ∷ 0 ∷ 7 ∷ 0 ∷ 0 ∷ 0 ∷ 38
-    ∷ 1 ∷ 15 ∷ 0 ∷ 2 ∷ 0 ∷ 0 ∷ 0 ∷ 7 ∷ 0 ∷ 0 ∷ 0 ∷ 38
-    ∷ 0 ∷ 0 ∷ 0 ∷ 0
-    ∷ 83 ∷ 97 ∷ 109 ∷ 112 ∷ 108 ∷ 101 ∷ 0 ∷ []
-
+-- a description and a maker's name that share one text
 twice : looks_apart sharing ≡ false
 twice = refl
 

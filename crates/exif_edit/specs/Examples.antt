@@ -41,7 +41,7 @@ unfolding located trace ordered_trace
 alone = refl
 
 -- a description and a maker's name that share one text
-abbrev sharing : List ℕ
+abbrev pub sharing : List ℕ
 sharing =
     77 ∷ 77 ∷ 0 ∷ 42 ∷ 0 ∷ 0 ∷ 0 ∷ 8
     ∷ 0 ∷ 2

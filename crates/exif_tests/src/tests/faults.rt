@@ -1,8 +1,9 @@
 //! Devices that fail once and then go on: the failure is reported, and no byte is lost or comes
 //! twice.
 
-use super::devices::{Drip, Once, OneByte, byte_reader, byte_writer};
+use super::devices::{Drip, OneByte, byte_reader, byte_writer};
 use exif_base::{Blocks, Counted, ReadFault, Sink, Source, read_to_end, send_all};
+use exif_test_support::devices::{KINDS, Once};
 use std::io;
 use std::io::ErrorKind;
 use std::process::Abort;
@@ -11,16 +12,9 @@ const DIGITS: &[u8] = b"0123456789";
 
 const LETTERS: &[u8] = b"abcdefgh";
 
-/// The kinds of errors that devices fail with.
-static KINDS: [ErrorKind; 3] = [
-    ErrorKind::Other,
-    ErrorKind::Interrupted,
-    ErrorKind::UnexpectedEof,
-];
-
 /// A source of ten digits, one a call, which fails once behind so many.
 fn digits(good_calls: usize, kind: ErrorKind) -> Counted<Once<OneByte<'static>>> {
-    Once::counted(byte_reader(DIGITS), good_calls, kind)
+    Counted::new(Once::new(byte_reader(DIGITS), good_calls, kind))
 }
 
 /// Whether a reader's error of this kind is the fault.
@@ -91,7 +85,7 @@ fn reading_goes_on_behind_a_skip(rt: HostRuntime) {
 
 /// A sink of one byte a call, which fails once behind so many.
 fn drops(good_calls: usize, kind: ErrorKind) -> Counted<Once<Drip>> {
-    Once::counted(byte_writer(), good_calls, kind)
+    Counted::new(Once::new(byte_writer(), good_calls, kind))
 }
 
 /// A send fails once, behind so many letters. Where the others are sent then, all were taken.
