@@ -1,6 +1,6 @@
 //! TIFF data of which no more than a front is read, where that says all.
 
-ghost use Rattle.std.specs.Prelude.{◌≡◌, ◌<◌, ◌≤◌, ◌+◌, ◌^◌, length, IfOk, IfErr, IfSome, Ok, false, true};
+ghost use Rattle.std.specs.Prelude.{◌≡◌, ◌≢◌, ◌<◌, ◌≤◌, ◌+◌, ◌^◌, length, IfOk, IfErr, IfSome, Ok, Err, false, true};
 ghost use Rattle.exif_base.specs.Orders.{order_named};
 ghost use Rattle.exif_base.specs.Reads.{Counts};
 ghost use Rattle.exif_types.specs.Refusals.{IsInterrupted, is_io};
@@ -73,6 +73,7 @@ pub fn pass_rest<R: Source>(source: &mut R, front: u64) -> Result<bool, Error>
     ensures too_many { IfOk result (λ reached. IfSome (R.left source.old)
         (λ rest. reached ≡ false → 2 ^ 32 ≤ front + length rest)) }
     ensures interrupted { IfErr result IsInterrupted }
+    ensures no_memory { result ≢ Err OutOfMemory }
     ensures counts { Counts R.Source source.old source.new (is_io result) }
 {
     let goes_on = pass_over(source, TOO_MANY - front)?;
