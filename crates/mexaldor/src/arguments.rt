@@ -179,9 +179,15 @@ fn replacing<'a>(alloc: Global, command: Command<'a>) -> Result<Command<'a>, All
         .arg(options::keep_time(alloc))
 }
 
-fn locations_only<'a>(alloc: Global, id: &'a str, help: &'a str) -> Result<Arg<'a>, AllocError> {
+// An option of `scrub`.
+fn scrub_flag<'a>(alloc: Global, option: ScrubOption, help: &'a str) -> Arg<'a> {
+    let id: &'a str = option.name();
     options::flag(alloc, id, help)
-        .conflicts_with(ScrubOption::KeepOrientation.name())?
+}
+
+// A flag that conflicts with those that choose what goes.
+fn alone<'a>(flag: Arg<'a>) -> Result<Arg<'a>, AllocError> {
+    flag.conflicts_with(ScrubOption::KeepOrientation.name())?
         .conflicts_with(ScrubOption::StripColor.name())
 }
 
@@ -194,25 +200,21 @@ fn scrub<'a>(alloc: Global) -> Result<Command<'a>, AllocError> {
         .after_help(
             "What stays: the colour profile, and in JPEG files the fields of the JFIF and Adobe segments; in TIFF files the tags that describe the picture. Whatever else may hold metadata, or with --locations-only a location, is reported, and the exit status is 3.",
         )
-        .arg(options::flag(
+        .arg(scrub_flag(alloc, ScrubOption::KeepOrientation, "Keep the orientation"))?
+        .arg(scrub_flag(
             alloc,
-            ScrubOption::KeepOrientation.name(),
-            "Keep the orientation",
-        ))?
-        .arg(options::flag(
-            alloc,
-            ScrubOption::StripColor.name(),
+            ScrubOption::StripColor,
             "Also remove the colour profile",
         ))?
-        .arg(locations_only(
+        .arg(alone(scrub_flag(
             alloc,
-            ScrubOption::LocationsOnly.name(),
+            ScrubOption::LocationsOnly,
             "Only erase locations, in place",
-        )?)?
-        .arg(locations_only(alloc, PLACES_ONLY, "The same as --locations-only")?)?
-        .arg(options::flag(
+        ))?)?
+        .arg(alone(options::flag(alloc, PLACES_ONLY, "The same as --locations-only"))?)?
+        .arg(scrub_flag(
             alloc,
-            ScrubOption::ForceBlank.name(),
+            ScrubOption::ForceBlank,
             "With --locations-only, also overwrite XMP and IPTC that can't be read",
         ))?;
     changing(alloc, command)?.arg(options::words(
