@@ -1,7 +1,7 @@
 -- Worked examples, with values by hand.
 use Rattle.std.specs.Prelude.{◌≡◌, ℕ, ◌+◌, ◌-◌, ◌*◌, Bool, true, false, List, [], ◌∷◌, ◌++◌, codes, map, Option, Some, None, Result, Ok, Err, refl}
 use Rattle.std.specs.Fmt.{digits}
-use Rattle.exif_text.specs.Plain.{zero_filled as filled}
+use Rattle.exif_text.specs.Plain.{zero_filled}
 use Rattle.exif_text.specs.declared.date.TimeOfDay.{TimeOfDay}
 use Rattle.exif_datetime.specs.Calendar.{days_before_month, days_before_year, month_from, year_from}
 use Rattle.exif_locations.specs.declared.xmp.fault.Fault.TheVariants.{Malformed, Cut}
@@ -15,7 +15,7 @@ use Rattle.exif_geotag.specs.declared.point.Fix.{Fix}
 use Rattle.exif_geotag.specs.declared.point.Point.{Point}
 use Rattle.exif_geotag.specs.Between.{between, fix_at, longitude_between}
 use Rattle.exif_geotag.specs.Elements.{element_at}
-use Rattle.exif_geotag.specs.FixTexts.{fix_text, zero_filled}
+use Rattle.exif_geotag.specs.FixTexts.{fix_text}
 use Rattle.exif_geotag.specs.Formats.{other_format}
 use Rattle.exif_geotag.specs.Gaps.{gap_in}
 use Rattle.exif_geotag.specs.Moments.{moment_at, moment_text}
@@ -321,5 +321,5 @@ a_leap_days_end = refl
 pub a_moments_text
     : moment_text (moment 2024 5 1 (record { hour = 2; minute = 30; second = 1 }) 0)
     ≡ codes "2024-05-01T02:30:01Z"
-unfolding filled digits
+unfolding zero_filled digits
 a_moments_text = refl
