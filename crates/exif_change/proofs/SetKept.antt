@@ -1,5 +1,5 @@
 -- JPEG files in whose data fields were set.
-use Rattle.std.proofs.Common.{◌≡◌, ◌<◌, ◌^◌, ◌-◌, ◌∙◌, ℕ, Bool, true, false, List, [], ◌∷◌, take, length, Option, Some, Result, Ok, Err, if◌then◌else◌, refl, sym, ap, subst}
+use Rattle.std.proofs.Common.{◌≡◌, ◌<◌, ◌^◌, ◌∙◌, ℕ, Bool, true, false, List, take, length, Option, Some, Result, Ok, Err, if◌then◌else◌, refl, sym, ap, subst}
 use Rattle.exif_types.specs.Refusals as types
 use Rattle.exif_types.specs.declared.field.Field.{Field}
 use Rattle.exif_types.specs.declared.tag.Tag.{Tag}
