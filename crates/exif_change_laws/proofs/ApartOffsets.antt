@@ -20,7 +20,7 @@ use Rattle.exif_edit_base.specs.Locations.{directory_offsets, gps_of, visited_gp
 use Rattle.exif_edit_base.specs.Walked.{Finds, Walked}
 use Rattle.exif_edit_base.specs.declared.patch.Span.{Span}
 use Rattle.exif_edit_base.specs.Spans.{nowhere, value_span, within}
-use Rattle.exif_edit.specs.Erasing.{clipped, gps_spans}
+use Rattle.exif_edit.specs.Erasing.{clipped}
 use Rattle.exif_edit.specs.GpsAlone.{all_kept, chain_kept, gps_is_unshared}
 use Rattle.exif_edit.specs.Sharing.{overlaps}
 use Rattle.exif_edit.proofs.WalkedDirectories.{kept_of, offsets_of, walked_kept, walked_offsets}

@@ -37,7 +37,7 @@ use Rattle.exif_scrub.proofs.Stays.{emptied_long}
 use Rattle.exif_change.specs.Changed.{Change, whole}
 use Rattle.exif_change.specs.Changes.{erased, heif_emptied, heif_left, if_edited, scrubbed, scrubbed_as}
 use Rattle.exif_change.specs.Reading.{Contents, data_contents, entry_limit, file_contents}
-use Rattle.exif_change.specs.Refusals.{Why, as_read, heif_fault, reading, unknown_format, ◌>>=◌}
+use Rattle.exif_change.specs.Refusals.{Why, as_read, heif_fault, unknown_format, ◌>>=◌}
 use Rattle.exif_change.specs.Rewriting.{rewritten}
 use Rattle.exif_change.specs.declared.scrubbing.Removed.{Removed}
 use Rattle.exif_change.specs.declared.scrubbing.Removed.TheVariants as removed

@@ -11,6 +11,7 @@ use Rattle.exif_layout.specs.Refused.{group_fault, write_fault}
 use Rattle.exif_layout.specs.Slots.{exif_slots, gps_slots, interop_slots, tiff_slots}
 use Rattle.exif_inventory.specs.JpegPieces.{between_piece, stream_piece}
 use Rattle.exif_inventory.specs.Walks.{walked}
+use Rattle.exif_parts.specs.Jpeg.{filtered}
 use Rattle.exif_change.specs.Changed.{whole}
 use Rattle.exif_change.specs.Changes.{scrubbed}
 use Rattle.exif_change.specs.Reading.{data_contents, file_contents}
@@ -45,7 +46,7 @@ abbrev bare : List ℕ
 bare = 255 ∷ 216 ∷ scan
 
 scrubs : scrubbed Metadata picture ≡ Ok (whole bare)
-unfolding walked between_piece stream_piece container_answer answer_as format_in
+unfolding filtered walked between_piece stream_piece container_answer answer_as format_in
 scrubs = refl
 
 nothing_read : file_contents bare ≡ Err no_exif_in_jpeg
@@ -53,7 +54,7 @@ unfolding container_answer answer_as format_in
 nothing_read = refl
 
 keeps : scrubbed AllButOrientation picture ≡ Ok (whole upright)
-unfolding walked between_piece stream_piece container_answer answer_as format_in data_contents raw_answer ordered_trace image draft_parts tiff_slots exif_slots gps_slots interop_slots tiff_offset exif_offset gps_offset interop_offset tiff_values exif_values gps_values interop_values strips_offset tiles_offset jpeg_offset draft_end write_fault group_fault
+unfolding filtered walked between_piece stream_piece container_answer answer_as format_in data_contents raw_answer ordered_trace image draft_parts tiff_slots exif_slots gps_slots interop_slots tiff_offset exif_offset gps_offset interop_offset tiff_values exif_values gps_values interop_values strips_offset tiles_offset jpeg_offset draft_end write_fault group_fault
 keeps = refl
 
 told : file_contents upright ≡ Ok (orientation_alone Big 6)

@@ -10,6 +10,8 @@ use Rattle.exif_layout.specs.Offsets.{draft_end, exif_offset, exif_values, gps_o
 use Rattle.exif_layout.specs.Refused.{group_fault, write_fault}
 use Rattle.exif_layout.specs.Slots.{exif_slots, gps_slots, interop_slots, tiff_slots}
 use Rattle.exif_edit.specs.InFiles.{file_patches}
+use Rattle.exif_inventory.specs.JpegPieces.{stream_piece}
+use Rattle.exif_parts.specs.Jpeg.{filtered}
 use Rattle.exif_assign.specs.Values.{value_in}
 use Rattle.exif_assign.specs.declared.assignment.Assignment.{Assignment}
 use Rattle.exif_change.specs.Changed.{whole}
@@ -51,7 +53,7 @@ unfolding container_answer answer_as format_in value_in
 assigned = refl
 
 sets : set_file (turned ∷ []) bare ≡ Ok (whole upright)
-unfolding container_answer answer_as format_in located_answer located_as file_patches value_in grown_file image draft_parts tiff_slots exif_slots gps_slots interop_slots tiff_offset exif_offset gps_offset interop_offset tiff_values exif_values gps_values interop_values strips_offset tiles_offset jpeg_offset draft_end write_fault group_fault
+unfolding container_answer answer_as format_in located_answer located_as file_patches value_in grown_file filtered stream_piece image draft_parts tiff_slots exif_slots gps_slots interop_slots tiff_offset exif_offset gps_offset interop_offset tiff_values exif_values gps_values interop_values strips_offset tiles_offset jpeg_offset draft_end write_fault group_fault
 sets = refl
 
 reads : container_answer upright ≡ Ok (data_of_new (orientation 6 ∷ []))
