@@ -1,4 +1,5 @@
 pub mod Answers
 pub mod Chosen
+pub mod Found
 pub mod Scrubs
 pub mod Uses

@@ -20,7 +20,7 @@ mod stamps;
 mod thumbnails;
 
 pub use change_out::change_into;
-pub use choosing::exif_of;
+pub use choosing::{exif_if_any, exif_of};
 pub use console::Console;
 pub use exif_files::Keeping;
 pub use in_place::{NotChanged, Plan, absolute_of, change_in_place, key_of, outcome_of};
