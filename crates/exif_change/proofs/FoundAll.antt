@@ -1,5 +1,5 @@
 -- Each part that does not belong to a file is among those that are found.
-use Rattle.std.proofs.Common.{◌≡◌, ◌<◌, ℕ, zero, suc, Bool, true, false, List, [], ◌∷◌, ◌++◌, map, length, All, Contains, if◌then◌else◌, sym, ap, subst, arith}
+use Rattle.std.proofs.Common.{◌≡◌, ◌<◌, zero, suc, Bool, true, false, List, [], ◌∷◌, ◌++◌, map, All, Contains, if◌then◌else◌, sym, ap, subst, arith}
 use Rattle.std.proofs.lemmas.List.Elements.{All-cons, All-nil, Contains-append_left, Contains-push}
 use Rattle.exif_inventory.specs.declared.part.Part.{Part}
 use Rattle.exif_change.specs.Found.{belongs, foreign}

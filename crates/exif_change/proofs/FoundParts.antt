@@ -1,10 +1,10 @@
 -- What is found in a new file: where nothing was left, nothing was found; and what was found was left.
-use Rattle.std.proofs.Common.{◌≡◌, ◌∙◌, ℕ, suc, Bool, true, false, List, [], ◌∷◌, ◌++◌, map, All, Contains, slice_index_or, Option, Some, None, Result, Ok, Err, refl, sym, ap, subst}
+use Rattle.std.proofs.Common.{◌≡◌, ◌∙◌, ℕ, Bool, List, [], ◌∷◌, ◌++◌, map, All, Contains, slice_index_or, Option, Some, None, Result, Ok, Err, refl, sym, ap, subst}
 use Rattle.std.proofs.lemmas.List.Elements.{Contains-append_right}
 use Rattle.exif_inventory.specs.Walks.{inventory}
 use Rattle.exif_inventory.specs.declared.part.Part.{Part}
 use Rattle.exif_change.specs.Changed.{Change, Undone, still_there, whole}
-use Rattle.exif_change.specs.Found.{belongs, foreign, found_in, IsAnswered, with_found, with_parts}
+use Rattle.exif_change.specs.Found.{foreign, found_in, IsAnswered, with_found, with_parts}
 use Rattle.exif_change.specs.Refusals.{Why}
 use Rattle.exif_change.proofs.FoundAll.{contains_map, foreign_all}
 

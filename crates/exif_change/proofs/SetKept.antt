@@ -1,5 +1,5 @@
 -- JPEG files in whose data fields were set.
-use Rattle.std.proofs.Common.{◌≡◌, ◌<◌, ◌^◌, ◌-◌, ◌∙◌, ℕ, Bool, true, false, List, [], ◌∷◌, take, length, Option, Some, Result, Ok, Err, if◌then◌else◌, refl, sym, ap, subst}
+use Rattle.std.proofs.Common.{◌≡◌, ◌<◌, ◌^◌, ◌∙◌, ℕ, Bool, true, false, List, take, length, Option, Some, Result, Ok, Err, if◌then◌else◌, refl, sym, ap, subst}
 use Rattle.exif_types.specs.Refusals as types
 use Rattle.exif_types.specs.declared.field.Field.{Field}
 use Rattle.exif_types.specs.declared.tag.Tag.{Tag}
@@ -15,18 +15,14 @@ use Rattle.exif_grow.specs.Items.{item_grown, item_growth}
 use Rattle.exif_grow.proofs.ItemSound.{growth_sound}
 use Rattle.exif_grow.specs.FieldPromises.{AreSet}
 use Rattle.exif_grow.specs.Fields.{fields_grown}
-use Rattle.exif_rewrite.specs.FileLaws.{AnswersPut, ComesOut, IsFound}
-use Rattle.exif_rewrite.specs.RewrittenFile.{at_once, file_rewriting, rewriting_as}
-use Rattle.exif_rewrite_jpeg.specs.JpegSteps.{strict_end, strictly}
-use Rattle.exif_rewrite_jpeg.specs.Rewriting.{End, Rewriting, cut_off, finished, refused_by}
-use Rattle.exif_rewrite_jpeg.specs.RewrittenJpeg.{jpeg_rewriting}
-use Rattle.exif_rewrite.specs.RewrittenWebp.{webp_rewriting}
-use Rattle.exif_change.specs.Changed.{Change, Undone, whole}
+use Rattle.exif_rewrite.specs.FileLaws.{IsFound}
+use Rattle.exif_change.specs.Changed.{Change, whole}
 use Rattle.exif_change.specs.Growing.{grown_by, grown_file, item_moved, longest, naming, put, put_alone, replaced, too_long_for}
 use Rattle.exif_change.specs.Refusals.{Why, as_edited, as_read, second_exif, ◌>>=◌}
-use Rattle.exif_change.specs.Rewriting.{if_whole, rewritten, rewritten_jpeg, rewritten_webp, stream_ended}
+use Rattle.exif_change.specs.Rewriting.{rewritten}
 use Rattle.exif_change.specs.Second.{has_second}
 use Rattle.exif_change.specs.SetLaws.{HoldsSet}
+use Rattle.exif_change.proofs.Scrubbed.{jpeg_answers, webp_answers}
 
 -- ---- steps that came through
 
@@ -83,51 +79,6 @@ pub tiff_same : (a b : List ℕ) → ◌≡◌ {A = Result Change Why} (Ok (whol
 unfolding change_or
 tiff_same a b e = ap (λ r. (change_or (whole b) r).file) e
 
--- ---- the stream
-
--- a stream that was whole
-ends_whole : (out new : List ℕ) (end : End) → as_read (stream_ended out end) ≡ Ok (whole new)
-    → (end ≡ finished) × (out ≡ new)
-unfolding change_or
-ends_whole out new finished e = (refl, ap (λ r. (change_or (whole new) r).file) e)
-ends_whole out new (cut_off waiting) e =
-    let none : List (Option Undone) → ℕ = λ us. elim us [ [] ↦ 0 | u ∷ us ↦ 1 ] in
-    absurd (one_zero (ap (λ r. none (change_or (whole new) r).undone) e))
-  where
-    one_zero : ◌≡◌ {A = ℕ} 1 0 → ⊥
-    one_zero e = cc
-ends_whole out new (refused_by r) e = absurd (err_ok e)
-  where
-    err_ok : ◌≡◌ {A = Result Change Why} (as_read (Err r)) (Ok (whole new)) → ⊥
-    err_ok e = cc
-
-file_is : (remove : Remove) (put : Option (List ℕ)) (file : List ℕ)
-    → format_in (take 4096 file) ≡ Some Jpeg
-    → file_rewriting remove put file
-    ≡ strictly (jpeg_rewriting remove put (take (2 ^ 64 - 1) file))
-unfolding file_rewriting rewriting_as
-file_is remove put file is = ap (λ f. rewriting_as f remove put file) is
-
--- what was put into a JPEG file is what is read
-put_answers : (remove : Remove) (put : Option (List ℕ)) (file new : List ℕ)
-    → ((remove : Remove) (put : Option (List ℕ)) (bytes : List ℕ) → IsFound remove put bytes)
-    → format_in (take 4096 file) ≡ Some Jpeg
-    → as_read (rewritten_jpeg remove put file) ≡ Ok (whole new) → length new < 2 ^ 64
-    → AnswersPut put (container_answer new)
-put_answers remove put file new law is e short =
-    let made = jpeg_rewriting remove put (take (2 ^ 64 - 1) file) in
-    let ended = ends_whole made.out new made.end e in
-    let all : file_rewriting remove put file ≡ strictly made = file_is remove put file is in
-    let out : (file_rewriting remove put file).out ≡ new =
-    ap (λ (r : Rewriting). r.out) all ∙ ended.1 in
-    let end : (file_rewriting remove put file).end ≡ finished =
-    ap (λ (r : Rewriting). r.end) all ∙ ap strict_end ended.0 in
-    let comes : ComesOut (file_rewriting remove put file) = record {
-      whole = end;
-      short = subst (λ (xs : List ℕ). length xs < 2 ^ 64) (sym out) short;
-    } in
-    subst (λ (xs : List ℕ). AnswersPut put (container_answer xs)) out (law remove put file comes)
-
 -- ---- the whole
 
 -- what was put into a JPEG or WebP file was written again
@@ -140,37 +91,6 @@ put_written format data' fields file new e =
     let same = else_same (has_second format file) b.0 (whole new) b.2 in
     naming_ok (longest fields) (rewritten format Exif (Some data') file) b.0 b.1
     ∙ ap (λ c. Ok c) same
-
--- a WebP file that was written again
-webp_ok : (x : Result (List ℕ) types.Refusal) (new : List ℕ) → as_read (if_whole x) ≡ Ok (whole new)
-    → x ≡ Ok new
-unfolding change_or
-webp_ok (Ok file) new e = ap (λ r. Ok (change_or (whole new) r).file) e
-webp_ok (Err r) new e = absurd (err_ok e)
-  where
-    err_ok : ◌≡◌ {A = Result Change Why} (as_read (if_whole (Err r))) (Ok (whole new)) → ⊥
-    err_ok e = cc
-
-webp_is : (remove : Remove) (put : Option (List ℕ)) (file : List ℕ)
-    → format_in (take 4096 file) ≡ Some WebP
-    → file_rewriting remove put file ≡ at_once (webp_rewriting remove put file)
-unfolding file_rewriting rewriting_as
-webp_is remove put file is = ap (λ f. rewriting_as f remove put file) is
-
-webp_answers : (data' file new : List ℕ) → ((remove : Remove) (put : Option (List ℕ)) (bytes : List ℕ) → IsFound remove put bytes)
-    → format_in (take 4096 file) ≡ Some WebP
-    → as_read (rewritten_webp Exif (Some data') file) ≡ Ok (whole new) → length new < 2 ^ 64
-    → container_answer new ≡ Ok data'
-webp_answers data' file new law is e short =
-    let made = webp_ok (webp_rewriting Exif (Some data') file) new e in
-    let all : file_rewriting Exif (Some data') file ≡ at_once (Ok new) =
-    webp_is Exif (Some data') file is ∙ ap at_once made in
-    let comes : ComesOut (file_rewriting Exif (Some data') file) = record {
-      whole = ap (λ (r : Rewriting). r.end) all;
-      short = subst (λ (r : Rewriting). length r.out < 2 ^ 64) (sym all) short;
-    } in
-    subst (λ (r : Rewriting). container_answer r.out ≡ Ok data') all
-    (law Exif (Some data') file comes)
 
 -- the item of a HEIF file that was moved holds the new data
 heif_answers : (data' file new : List ℕ) → item_moved data' file ≡ Ok (whole new)
@@ -223,10 +143,9 @@ data_found format fields file bytes new law is held e short =
         → replaced f data' fields file ≡ Ok (whole new) → Found f new data'
     by_format Tiff is data' e = tiff_same data' new e
     by_format Jpeg is data' e =
-        put_answers Exif (Some data') file new law is
-        (put_written Jpeg data' fields file new e) short
+        jpeg_answers Exif (Some data') file new (put_written Jpeg data' fields file new e) short
     by_format WebP is data' e =
-        webp_answers data' file new law is
+        webp_answers Exif (Some data') file new law is
         (put_written WebP data' fields file new e) short
     by_format Heif is data' e = heif_answers data' file new e
 

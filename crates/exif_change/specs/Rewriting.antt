@@ -1,27 +1,31 @@
 -- JPEG and WebP files that are written again.
-use Rattle.std.specs.Prelude.{ℕ, ◌-◌, ◌^◌, List, [], ◌∷◌, ◌++◌, take, Option, Some, Result, Ok, Err}
+use Rattle.std.specs.Prelude.{ℕ, List, [], ◌∷◌, Option, Some, Result, Ok, Err}
 use Rattle.exif_types.specs.Refusals.{Refusal}
 use Rattle.exif_containers.specs.declared.container.Format.{Format}
 use Rattle.exif_containers.specs.declared.container.Format.TheVariants.{Tiff, Jpeg, Heif, WebP}
 use Rattle.exif_segments.specs.declared.remove.Remove.{Remove}
-use Rattle.exif_rewrite_jpeg.specs.Rewriting.{End, cut_off, finished, refused_by}
-use Rattle.exif_rewrite_jpeg.specs.RewrittenJpeg.{jpeg_rewriting}
+use Rattle.exif_parts.specs.Jpeg as parts
+use Rattle.exif_parts.specs.Written.{Written}
+use Rattle.exif_parts.specs.declared.rewritten.Ended.{Ended}
+use Rattle.exif_parts.specs.declared.rewritten.Ended.TheVariants.{Whole, Cut}
 use Rattle.exif_rewrite.specs.RewrittenWebp.{webp_rewriting}
 use Rattle.exif_change.specs.Changed.{Change, whole}
 use Rattle.exif_change.specs.Changed as undone
 
--- a JPEG stream that was written again; where it ends before its picture does, that is said, and
--- new data that have no place yet are at its end
-abbrev pub stream_ended : List ℕ → End → Result Change Refusal
-stream_ended out finished = Ok (whole out)
-stream_ended out (cut_off waiting) =
-    Ok (record { file = out ++ waiting; undone = Some undone.cut_off ∷ [] })
-stream_ended out (refused_by refusal) = Err refusal
+-- the bytes of a JPEG stream that was written again; where it ends before its picture does, that is
+-- said
+abbrev pub stream_change : List ℕ → Ended → Change
+stream_change bytes Whole = whole bytes
+stream_change bytes Cut = record { file = bytes; undone = Some undone.cut_off ∷ [] }
 
--- what a JPEG stream becomes, of which 2^64 - 1 bytes are read
+-- such a stream, if it is not refused
+abbrev pub stream_ended : Result Written Refusal → Result Change Refusal
+stream_ended (Ok new) = Ok (stream_change new.bytes new.ended)
+stream_ended (Err refusal) = Err refusal
+
+-- what a JPEG stream becomes: the pieces of its inventory that stay, and new Exif data
 abbrev pub rewritten_jpeg : Remove → Option (List ℕ) → List ℕ → Result Change Refusal
-rewritten_jpeg remove put file =
-    let made = jpeg_rewriting remove put (take (2 ^ 64 - 1) file) in stream_ended made.out made.end
+rewritten_jpeg remove put file = stream_ended (parts.rewritten remove put file)
 
 -- a whole file, if it is one
 abbrev pub if_whole : Result (List ℕ) Refusal → Result Change Refusal

@@ -8,17 +8,13 @@ ghost use Rattle.exif_change.specs.Changed.{whole};
 ghost use Rattle.exif_change.specs.Changes.{kept, scrubbed};
 ghost use Rattle.exif_change.specs.declared.scrubbing.Removed.TheVariants.{AllButOrientation, Metadata};
 
-use exif_rewrite::laws::file_answers_what_was_put;
-
 /// Of a JPEG file without its metadata no Exif data are read.
 pub fn a_scrubbed_jpeg_file_has_no_exif()
     ensures { (file new : List ℕ)
         → format_in file ≡ Some Jpeg → format_in (take 4096 file) ≡ Some Jpeg
         → scrubbed Metadata file ≡ Ok (whole new) → length new < 2 ^ 64
         → AnswersPut None (container_answer new) }
-{
-    file_answers_what_was_put();
-}
+{}
 
 /// Where the orientation is kept, the Exif data that are read of a JPEG file are those of exactly
 /// the orientation.
@@ -28,6 +24,4 @@ pub fn a_scrubbed_jpeg_file_keeps_the_orientation()
         → kept AllButOrientation file ≡ Ok put
         → scrubbed AllButOrientation file ≡ Ok (whole new) → length new < 2 ^ 64
         → AnswersPut put (container_answer new) }
-{
-    file_answers_what_was_put();
-}
+{}

@@ -8,7 +8,8 @@ ghost use Rattle.exif_change.specs.Rewriting.{rewritten, rewritten_jpeg, rewritt
 use crate::changed::{Changed, Left};
 use exif::{Counted, Error};
 use exif_containers::container::Format;
-use exif_rewrite::{Ended, Remove, rewrite_jpeg_as_it_stands, rewrite_webp};
+use exif_parts::{Ended, rewrite_jpeg};
+use exif_rewrite::{Remove, rewrite_webp};
 use std::alloc::Global;
 
 // A JPEG stream, as far as it goes, with other Exif data in place of what is taken out.
@@ -20,10 +21,9 @@ fn rewritten_jpeg(
 ) -> Result<Changed, Error>
     ensures { Gives change_of result (rewritten_jpeg remove (payload_of exif.entry) file.now) }
 {
-    let mut out = Counted::new(Vec::new(alloc));
-    let ended = rewrite_jpeg_as_it_stands(&mut Counted::new(file), &mut out, exif, remove)?;
-    let mut changed = Changed::whole(alloc, out.into_inner());
-    if let Ended::Cut = ended {
+    let new = rewrite_jpeg(alloc, file, remove, exif)?;
+    let mut changed = Changed::whole(alloc, new.bytes);
+    if let Ended::Cut = new.ended {
         changed.left.push(Left::CutOff)?;
     }
     Ok(changed)

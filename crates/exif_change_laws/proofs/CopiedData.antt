@@ -24,11 +24,11 @@ use Rattle.exif_change.specs.Changed.{Change, whole}
 use Rattle.exif_change.specs.Reading.{Contents, data_contents, entry_limit, fields_in, without_fault}
 use Rattle.exif_change.specs.Refusals.{Why, as_read, unknown_format, ◌>>=◌}
 use Rattle.exif_change.specs.Rewriting.{if_whole}
+use Rattle.exif_change.proofs.Scrubbed.{jpeg_answers, webp_answers}
 use Rattle.exif_copy.specs.Copied.{copied, placed_shaped}
 use Rattle.exif_copy.specs.Found.{data_found, exif_found, format_for}
 use Rattle.exif_copy.specs.Placed.{placed, png_made, target_refused}
 use Rattle.exif_copy.specs.declared.copying.Shape.TheVariants.{Source}
-use Rattle.exif_change_laws.proofs.NewFiles.{jpeg_answers, webp_answers}
 
 no_ok : {X : Type 0} (why : Why) (x : X) → ◌≡◌ {A = Result X Why} (Err why) (Ok x) → ⊥
 no_ok why x e = cc
@@ -55,15 +55,7 @@ other_is_no_container : (head : List ℕ) → is_container (other_format_in head
 unfolding other_format_in
 other_is_no_container head = other_is_none _ _ _ _ _ _
 
--- a JPEG or WebP file is one for the containers, too
-known_jpeg : (o : Option Format) (other : Option PictureFormat) → is_container other ≡ false
-    → known_or o other ≡ Some Jpeg → o ≡ Some known.Jpeg
-known_jpeg (Some known.Jpeg) other n e = refl
-known_jpeg (Some known.Tiff) other n e = absurd (let h : ◌≡◌ {A = Option PictureFormat} (Some Tiff) (Some Jpeg) = e in cc)
-known_jpeg (Some known.Heif) other n e = absurd (let h : ◌≡◌ {A = Option PictureFormat} (Some Heif) (Some Jpeg) = e in cc)
-known_jpeg (Some known.WebP) other n e = absurd (let h : ◌≡◌ {A = Option PictureFormat} (Some WebP) (Some Jpeg) = e in cc)
-known_jpeg None other n e = absurd (let h : true ≡ false = sym (ap is_container e) ∙ n in cc)
-
+-- a WebP file is one for the containers, too
 known_webp : (o : Option Format) (other : Option PictureFormat) → is_container other ≡ false
     → known_or o other ≡ Some WebP → o ≡ Some known.WebP
 known_webp (Some known.WebP) other n e = refl
@@ -71,12 +63,6 @@ known_webp (Some known.Tiff) other n e = absurd (let h : ◌≡◌ {A = Option P
 known_webp (Some known.Heif) other n e = absurd (let h : ◌≡◌ {A = Option PictureFormat} (Some Heif) (Some WebP) = e in cc)
 known_webp (Some known.Jpeg) other n e = absurd (let h : ◌≡◌ {A = Option PictureFormat} (Some Jpeg) (Some WebP) = e in cc)
 known_webp None other n e = absurd (let h : true ≡ false = sym (ap is_container e) ∙ n in cc)
-
-jpeg_known : (file : List ℕ) → format_for file ≡ Some Jpeg
-    → container.format_in (take 4096 file) ≡ Some known.Jpeg
-unfolding format_in
-jpeg_known file e =
-    known_jpeg (container.format_in (take 4096 file)) (other_format_in (take 4096 file)) (other_is_no_container (take 4096 file)) e
 
 webp_known : (file : List ℕ) → format_for file ≡ Some WebP
     → container.format_in (take 4096 file) ≡ Some known.WebP
@@ -123,9 +109,9 @@ by_format : Laws → (o : Option PictureFormat) (data' to new : List ℕ) → fo
     → placed o data' to ≡ Ok (whole new) → length new < 2 ^ 64 - 1 → data_found o new ≡ Ok data'
 by_format laws None data' to new is e short = absurd (no_ok unknown_format (whole new) e)
 by_format laws (Some Jpeg) data' to new is e short =
-    jpeg_answers data' to new laws.file (jpeg_known to is) e (omega arith)
+    jpeg_answers Exif (Some data') to new e (omega arith)
 by_format laws (Some WebP) data' to new is e short =
-    webp_answers data' to new laws.file (webp_known to is) e (omega arith)
+    webp_answers Exif (Some data') to new laws.file (webp_known to is) e (omega arith)
 by_format laws (Some Png) data' to new is e short = png_answers data' to new laws.png e short
 by_format laws (Some Tiff) data' to new is e short = absurd (no_ok target_refused (whole new) e)
 by_format laws (Some Heif) data' to new is e short = absurd (no_ok target_refused (whole new) e)

@@ -35,28 +35,24 @@ use Rattle.exif_edit_base.specs.Causes as causes
 use Rattle.exif_edit_base.specs.Causes.{Cause, no_data, of_container}
 use Rattle.exif_edit_base.specs.Patches.{patched}
 use Rattle.exif_edit.specs.InFiles.{data_patches, file_patches, placed}
-use Rattle.exif_rewrite.specs.FileLaws.{AnswersPut, ComesOut, IsFound}
-use Rattle.exif_rewrite.specs.RewrittenFile.{at_once, file_rewriting, rewriting_as}
-use Rattle.exif_rewrite_jpeg.specs.JpegSteps.{strict_end, strictly}
-use Rattle.exif_rewrite_jpeg.specs.Rewriting.{End, Rewriting, cut_off, finished, refused_by}
-use Rattle.exif_rewrite_jpeg.specs.RewrittenJpeg.{jpeg_rewriting}
-use Rattle.exif_rewrite.specs.RewrittenWebp.{webp_rewriting}
+use Rattle.exif_rewrite.specs.FileLaws.{IsFound}
 use Rattle.exif_assign.specs.Assigning.{parts_of}
 use Rattle.exif_assign.specs.Rules.{type_of_new}
 use Rattle.exif_assign.specs.Values.{value_in}
 use Rattle.exif_assign.specs.declared.assignment.Assignment.{Assignment}
 use Rattle.exif_assign.specs.declared.spelled.ValueError.{ValueError}
 use Rattle.exif_assign.specs.declared.spelled.ValueError.TheVariants as value_error
-use Rattle.exif_change.specs.Changed.{Change, Undone, whole}
+use Rattle.exif_change.specs.Changed.{Change, whole}
 use Rattle.exif_change.specs.Growing.{created_for, created_in, grown_by, grown_file, longest, naming, new_data, put, too_long_for, unless_fault}
 use Rattle.exif_change.specs.InPlace.{field_set, fit_by, fitting_set, setting}
 use Rattle.exif_change.specs.Reading.{data_contents, entry_limit}
 use Rattle.exif_change.specs.Refusals.{Why, as_edited, as_read, no_field, not_of_its_type, out_of_range, reading, unknown_format, ◌>>=◌}
-use Rattle.exif_change.specs.Rewriting.{rewritten, rewritten_jpeg, rewritten_webp, stream_ended}
+use Rattle.exif_change.specs.Rewriting.{rewritten}
 use Rattle.exif_change.specs.Setting.{assigned_behind, assigned_fields, field_for, field_or, field_typed, fields_or_none, is_assigned, primary, set_as, set_file, set_rest, with_assigned, with_field}
+use Rattle.exif_change.proofs.Scrubbed.{jpeg_answers, webp_answers}
 use Rattle.exif_change.proofs.SetKept.{bound}
 use Rattle.exif_change_laws.proofs.MadeValues.{made_value, new_written}
-use Rattle.exif_change_laws.proofs.ScrubbedFiles.{jpeg_front, webp_front, whole_told}
+use Rattle.exif_change_laws.proofs.ScrubbedFiles.{webp_front}
 use Rattle.exif_change_laws.proofs.SetAssigned.{distinct_fields}
 use Rattle.exif_change_laws.proofs.SetNames.{AreDistinct}
 
@@ -175,10 +171,6 @@ left_over file what none (g ∷ gs) left =
 
 -- ---- what is put is read
 
-change_or : Change → Result Change Why → Change
-change_or other (Ok change) = change
-change_or other (Err why) = other
-
 naming_ok : (tag : Option Tag) (x : Result Change Refusal) (c : Change) → naming tag x ≡ Ok c → as_read x ≡ Ok c
 naming_ok tag (Ok y) c e = e
 naming_ok tag (Err (types.too_big text)) c e = absurd (no_ok (too_long_for tag text) c e)
@@ -187,42 +179,6 @@ naming_ok tag (Err (types.not_found text)) c e = e
 naming_ok tag (Err (types.blank_value text)) c e = e
 naming_ok tag (Err (types.not_supported text)) c e = e
 naming_ok tag (Err (types.unexpected_value text)) c e = e
-
--- a stream that was whole
-ends_whole : (out new : List ℕ) (end : End) → as_read (stream_ended out end) ≡ Ok (whole new)
-    → (end ≡ finished) × (out ≡ new)
-unfolding change_or
-ends_whole out new finished e = (refl, ap (λ r. (change_or (whole new) r).file) e)
-ends_whole out new (cut_off waiting) e =
-    let none : List (Option Undone) → ℕ = λ us. elim us [ [] ↦ 0 | u ∷ us ↦ 1 ] in
-    absurd (one_zero (ap (λ r. none (change_or (whole new) r).undone) e))
-  where
-    one_zero : ◌≡◌ {A = ℕ} 1 0 → ⊥
-    one_zero e = cc
-ends_whole out new (refused_by r) e = absurd (no_ok (reading r) (whole new) e)
-
-jpeg_is : (put : Option (List ℕ)) (file : List ℕ) → format_in (take 4096 file) ≡ Some Jpeg
-    → file_rewriting Exif put file ≡ strictly (jpeg_rewriting Exif put (take (2 ^ 64 - 1) file))
-unfolding file_rewriting rewriting_as
-jpeg_is put file is = ap (λ f. rewriting_as f Exif put file) is
-
-pub jpeg_answers : (data' file new : List ℕ)
-    → ((remove : Remove) (put : Option (List ℕ)) (bytes : List ℕ) → IsFound remove put bytes)
-    → format_in (take 4096 file) ≡ Some Jpeg
-    → as_read (rewritten_jpeg Exif (Some data') file) ≡ Ok (whole new) → length new < 2 ^ 64
-    → container_answer new ≡ Ok data'
-jpeg_answers data' file new law is e short =
-    let made = jpeg_rewriting Exif (Some data') (take (2 ^ 64 - 1) file) in
-    let ended = ends_whole made.out new made.end e in
-    let all : file_rewriting Exif (Some data') file ≡ strictly made = jpeg_is (Some data') file is in
-    let out : (file_rewriting Exif (Some data') file).out ≡ new = ap (λ (r : Rewriting). r.out) all ∙ ended.1 in
-    let end : (file_rewriting Exif (Some data') file).end ≡ finished =
-    ap (λ (r : Rewriting). r.end) all ∙ ap strict_end ended.0 in
-    let comes : ComesOut (file_rewriting Exif (Some data') file) = record {
-      whole = end;
-      short = subst (λ (xs : List ℕ). length xs < 2 ^ 64) (sym out) short;
-    } in
-    subst (λ (xs : List ℕ). AnswersPut (Some data') (container_answer xs)) out (law Exif (Some data') file comes)
 
 -- data that were written
 unfaulted : (o : Option WriteFault) (bytes data' : List ℕ) → as_read (unless_fault o bytes) ≡ Ok data'
@@ -247,26 +203,6 @@ created format fields file new answers e =
       read = answers b.0 (naming_ok (longest fields) (rewritten format Exif (Some b.0) file) (whole new) b.2)
           ∙ ap (λ (xs : List ℕ). let y : Result (List ℕ) Refusal = Ok xs in y) (sym u.1);
     }
-
-webp_is : (put : Option (List ℕ)) (file : List ℕ) → format_in (take 4096 file) ≡ Some WebP
-    → file_rewriting Exif put file ≡ at_once (webp_rewriting Exif put file)
-unfolding file_rewriting rewriting_as
-webp_is put file is = ap (λ f. rewriting_as f Exif put file) is
-
-pub webp_answers : (data' file new : List ℕ)
-    → ((remove : Remove) (put : Option (List ℕ)) (bytes : List ℕ) → IsFound remove put bytes)
-    → format_in (take 4096 file) ≡ Some WebP
-    → as_read (rewritten_webp Exif (Some data') file) ≡ Ok (whole new) → length new < 2 ^ 64
-    → container_answer new ≡ Ok data'
-webp_answers data' file new law is e short =
-    let made = whole_told (webp_rewriting Exif (Some data') file) new e in
-    let all : file_rewriting Exif (Some data') file ≡ at_once (Ok new) =
-    webp_is (Some data') file is ∙ ap at_once made in
-    let comes : ComesOut (file_rewriting Exif (Some data') file) = record {
-      whole = ap (λ (r : Rewriting). r.end) all;
-      short = subst (λ (r : Rewriting). length r.out < 2 ^ 64) (sym all) short;
-    } in
-    subst (λ (r : Rewriting). container_answer r.out ≡ Ok data') all (law Exif (Some data') file comes)
 
 -- TIFF data are their own container
 tiff_told : (file : List ℕ) → format_in file ≡ Some Tiff → begins_tiff file ≡ true
@@ -338,9 +274,10 @@ new_file typed law assignments g gs file new what long short none are e = record
     by_created Heif is e = absurd (no_ok (reading (not_found what)) (whole new) e)
     by_created Tiff is e = absurd (tiff_answers file what is none)
     by_created Jpeg is e =
-        created Jpeg (g ∷ gs) file new (λ data' h. jpeg_answers data' file new law (jpeg_front file is) h short) e
+        created Jpeg (g ∷ gs) file new (λ data' h. jpeg_answers Exif (Some data') file new h short) e
     by_created WebP is e =
-        created WebP (g ∷ gs) file new (λ data' h. webp_answers data' file new law (webp_front file is) h short) e
+        created WebP (g ∷ gs) file new
+        (λ data' h. webp_answers Exif (Some data') file new law (webp_front file is) h short) e
 
     by_format : (o : Option Format) → format_in file ≡ o
         → ◌≡◌ {A = Result Change Why} (elim o [ Some format ↦ set_as format assignments file | None ↦ Err unknown_format ]) (Ok (whole new))

@@ -28,11 +28,8 @@ use Rattle.exif_edit.specs.declared.edits.Edit.TheVariants.{EraseAll}
 use Rattle.exif_edit.specs.InFiles.{data_patches, edited_file, file_patches, if_served, placed, serves, takes_picture}
 use Rattle.exif_edit.specs.Spreading.{spread}
 use Rattle.exif_edit.proofs.FilesSound.{file_sound}
-use Rattle.exif_rewrite.specs.FileLaws.{AnswersPut, ComesOut, IsFound}
-use Rattle.exif_rewrite.specs.RewrittenFile.{at_once, file_rewriting, rewriting_as}
+use Rattle.exif_rewrite.specs.FileLaws.{AnswersPut, IsFound}
 use Rattle.exif_rewrite.proofs.FileHeads.{jpeg_head, webp_head}
-use Rattle.exif_rewrite_jpeg.specs.Rewriting.{Rewriting, finished}
-use Rattle.exif_rewrite.specs.RewrittenWebp.{webp_rewriting}
 use Rattle.exif_inventory.specs.declared.part.Part.{Part}
 use Rattle.exif_scrub.specs.HeifScrubbing as heif
 use Rattle.exif_scrub.specs.declared.heif.fault.Fault as heif_faults
@@ -41,11 +38,11 @@ use Rattle.exif_change.specs.Changed.{Change, whole}
 use Rattle.exif_change.specs.Changes.{erased, heif_emptied, heif_left, if_edited, scrubbed, scrubbed_as}
 use Rattle.exif_change.specs.Reading.{Contents, data_contents, entry_limit, file_contents}
 use Rattle.exif_change.specs.Refusals.{Why, as_read, heif_fault, reading, unknown_format, ◌>>=◌}
-use Rattle.exif_change.specs.Rewriting.{if_whole, rewritten, rewritten_webp}
+use Rattle.exif_change.specs.Rewriting.{rewritten}
 use Rattle.exif_change.specs.declared.scrubbing.Removed.{Removed}
 use Rattle.exif_change.specs.declared.scrubbing.Removed.TheVariants as removed
 use Rattle.exif_change.proofs.FoundParts.{with_found_whole, with_parts_whole}
-use Rattle.exif_change.proofs.Scrubbed.{scrubbed_answers}
+use Rattle.exif_change.proofs.Scrubbed.{jpeg_answers, webp_answers}
 use Rattle.exif_change_laws.specs.Scrubbed.{HasNoField, is_rewritten}
 use Rattle.exif_change_laws.proofs.NoField.{none_in_data}
 
@@ -105,37 +102,14 @@ jpeg_front file e = let b = jpeg_begins file (jpeg_told file e) in jpeg_head fil
 pub webp_front : (file : List ℕ) → format_in file ≡ Some WebP → format_in (take 4096 file) ≡ Some WebP
 webp_front file e = webp_head file (webp_told file e)
 
--- ---- WebP files
-
-pub whole_told : (r : Result (List ℕ) Refusal) (new : List ℕ) → as_read (if_whole r) ≡ Ok (whole new) → r ≡ Ok new
-whole_told (Ok out) new e =
-    let of : Result Change Why → List ℕ = λ x. elim x [ Ok change ↦ change.file | Err why ↦ new ] in
-    ap (λ (xs : List ℕ). let r : Result (List ℕ) Refusal = Ok xs in r) (ap of e)
-whole_told (Err r) new e = absurd (no_ok (reading r) (whole new) e)
-
-webp_is : (put : Option (List ℕ)) (file : List ℕ) → format_in (take 4096 file) ≡ Some WebP
-    → file_rewriting Metadata put file ≡ at_once (webp_rewriting Metadata put file)
-unfolding file_rewriting rewriting_as
-webp_is put file is = ap (λ f. rewriting_as f Metadata put file) is
-
--- what was put into a WebP file is what is read
-pub webp_answers : (put : Option (List ℕ)) (file new : List ℕ) → ((remove : Remove) (put : Option (List ℕ)) (bytes : List ℕ) → IsFound remove put bytes)
-    → format_in (take 4096 file) ≡ Some WebP → as_read (rewritten_webp Metadata put file) ≡ Ok (whole new) → length new < 2 ^ 64
-    → AnswersPut put (container_answer new)
-webp_answers put file new law is e short =
-    let made = whole_told (webp_rewriting Metadata put file) new e in
-    let all : file_rewriting Metadata put file ≡ at_once (Ok new) = webp_is put file is ∙ ap at_once made in
-    let out : (file_rewriting Metadata put file).out ≡ new = ap (λ (r : Rewriting). r.out) all in
-    let end : (file_rewriting Metadata put file).end ≡ finished = ap (λ (r : Rewriting). r.end) all in
-    let comes : ComesOut (file_rewriting Metadata put file) = record { whole = end; short = subst (λ (xs : List ℕ). length xs < 2 ^ 64) (sym out) short } in
-    subst (λ (xs : List ℕ). AnswersPut put (container_answer xs)) out (law Metadata put file comes)
+-- ---- files that are written again
 
 -- what was put into a file that is written again is what is read
 pub rewritten_answers : (format : Format) (put : Option (List ℕ)) (file new : List ℕ) → ((remove : Remove) (put : Option (List ℕ)) (bytes : List ℕ) → IsFound remove put bytes)
     → is_rewritten format ≡ true → format_in file ≡ Some format → as_read (rewritten format Metadata put file) ≡ Ok (whole new) → length new < 2 ^ 64
     → AnswersPut put (container_answer new)
-rewritten_answers Jpeg put file new law r is e short = scrubbed_answers put file new law (jpeg_front file is) e short
-rewritten_answers WebP put file new law r is e short = webp_answers put file new law (webp_front file is) e short
+rewritten_answers Jpeg put file new law r is e short = jpeg_answers Metadata put file new e short
+rewritten_answers WebP put file new law r is e short = webp_answers Metadata put file new law (webp_front file is) e short
 rewritten_answers Heif put file new law r is e short = absurd (false≢true r)
 rewritten_answers Tiff put file new law r is e short = absurd (false≢true r)
 

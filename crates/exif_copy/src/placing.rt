@@ -12,7 +12,8 @@ ghost use Rattle.exif_copy.specs.Placed.{placed, png_made, target_refused};
 use exif::{Counted, Error};
 use exif_change::{Changed, Left, Refusal};
 use exif_formats::PictureFormat;
-use exif_rewrite::{Ended, Remove, rewrite_jpeg_as_it_stands, rewrite_webp};
+use exif_parts::{Ended, rewrite_jpeg};
+use exif_rewrite::{Remove, rewrite_webp};
 use exif_rewrite_png::rewrite_png;
 use std::alloc::Global;
 
@@ -30,15 +31,9 @@ fn whole(alloc: Global, file: Vec<u8>) -> Changed
 fn placed_in_jpeg(alloc: Global, exif: &[u8], file: &[u8]) -> Result<Changed, Error>
     ensures { Gives change_of result (rewritten_jpeg remove.Exif (Some exif.now) file.now) }
 {
-    let mut out = Counted::new(Vec::new(alloc));
-    let ended = rewrite_jpeg_as_it_stands(
-        &mut Counted::new(file),
-        &mut out,
-        Some(exif),
-        Remove::Exif,
-    )?;
-    let mut changed = whole(alloc, out.into_inner());
-    if let Ended::Cut = ended {
+    let new = rewrite_jpeg(alloc, file, Remove::Exif, Some(exif))?;
+    let mut changed = whole(alloc, new.bytes);
+    if let Ended::Cut = new.ended {
         changed.left.push(Left::CutOff)?;
     }
     Ok(changed)

@@ -1,5 +1,4 @@
 pub mod AtSteps
-pub mod FixSteps
 pub mod FormatSteps
 pub mod SortSteps
 pub mod StepSteps

@@ -1,7 +1,7 @@
 -- Worked examples, with values by hand.
-use Rattle.std.specs.Prelude.{◌≡◌, ℕ, ◌+◌, ◌-◌, ◌*◌, Bool, true, false, List, [], ◌∷◌, ◌++◌, codes, Option, Some, None, Result, Ok, Err, refl}
+use Rattle.std.specs.Prelude.{◌≡◌, ℕ, ◌+◌, ◌-◌, ◌*◌, Bool, true, false, List, [], ◌∷◌, ◌++◌, codes, map, Option, Some, None, Result, Ok, Err, refl}
 use Rattle.std.specs.Fmt.{digits}
-use Rattle.exif_text.specs.Plain.{zero_filled as filled}
+use Rattle.exif_text.specs.Plain.{zero_filled}
 use Rattle.exif_text.specs.declared.date.TimeOfDay.{TimeOfDay}
 use Rattle.exif_datetime.specs.Calendar.{days_before_month, days_before_year, month_from, year_from}
 use Rattle.exif_locations.specs.declared.xmp.fault.Fault.TheVariants.{Malformed, Cut}
@@ -15,7 +15,7 @@ use Rattle.exif_geotag.specs.declared.point.Fix.{Fix}
 use Rattle.exif_geotag.specs.declared.point.Point.{Point}
 use Rattle.exif_geotag.specs.Between.{between, fix_at, longitude_between}
 use Rattle.exif_geotag.specs.Elements.{element_at}
-use Rattle.exif_geotag.specs.FixTexts.{fix_text, zero_filled}
+use Rattle.exif_geotag.specs.FixTexts.{fix_text}
 use Rattle.exif_geotag.specs.Formats.{other_format}
 use Rattle.exif_geotag.specs.Gaps.{gap_in}
 use Rattle.exif_geotag.specs.Moments.{moment_at, moment_text}
@@ -251,21 +251,11 @@ pub two_of_three_points : track_of a_file ≡ Ok (record {
 unfolding points_from step_at content_step tag_step enter leave with_text with_attribute element_at tag_at attribute_at content_at markup_at opening_at closing_at declared_at is_location is_word negative_of positive_of time_of ended milliseconds_of zone_of days_before_month days_before_year
 two_of_three_points = refl
 
-pub no_gpx : track_of (codes "<html></html>") ≡ Err NotGpx
+pub no_track : map track_of (codes "text" ∷ codes "<html></html>" ∷ codes "<gpx></gpx>"
+    ∷ codes "<gpx><trk>" ∷ [])
+    ≡ Err NotGpx ∷ Err NotGpx ∷ Err Empty ∷ Err (Xml Cut) ∷ []
 unfolding points_from step_at content_step tag_step enter leave with_text with_attribute element_at tag_at attribute_at content_at markup_at opening_at closing_at declared_at is_location is_word
-no_gpx = refl
-
-pub no_markup : track_of (codes "text") ≡ Err NotGpx
-unfolding points_from step_at content_step content_at
-no_markup = refl
-
-pub no_points : track_of (codes "<gpx></gpx>") ≡ Err Empty
-unfolding points_from step_at content_step tag_step enter leave with_text with_attribute element_at tag_at attribute_at content_at markup_at opening_at closing_at declared_at is_location is_word
-no_points = refl
-
-pub cut_off_before_a_point : track_of (codes "<gpx><trk>") ≡ Err (Xml Cut)
-unfolding points_from step_at content_step tag_step enter leave with_text with_attribute element_at tag_at attribute_at content_at markup_at opening_at closing_at declared_at is_location is_word
-cut_off_before_a_point = refl
+no_track = refl
 
 -- one point, and more behind it
 abbrev pub a_point_and : List ℕ → List ℕ
@@ -280,46 +270,22 @@ the_point cut_off = Ok (record {
   cut_off = cut_off;
 })
 
-pub a_whole_file : track_of (a_point_and (codes "</gpx>")) ≡ the_point false
+-- whole, or cut off in a tag, in a value, in a time and in a comment; and not well-formed
+pub with_more : map (λ rest. track_of (a_point_and rest)) (codes "</gpx>" ∷ codes "<trkpt la"
+    ∷ codes "<trkpt lat='3' lon='4" ∷ codes "<trkpt lat='3' lon='4'><time>1970-01"
+    ∷ codes "<!-- 2 > 1" ∷ codes "<trkpt lat=3></trkpt></gpx>" ∷ [])
+    ≡ the_point false ∷ the_point true ∷ the_point true ∷ the_point true ∷ the_point true
+    ∷ Err (Xml Malformed) ∷ []
 unfolding points_from step_at content_step tag_step enter leave with_text with_attribute element_at tag_at attribute_at content_at markup_at opening_at closing_at declared_at is_location is_word negative_of positive_of time_of ended milliseconds_of zone_of days_before_month days_before_year
-a_whole_file = refl
-
-pub cut_off_in_a_tag : track_of (a_point_and (codes "<trkpt la")) ≡ the_point true
-unfolding points_from step_at content_step tag_step enter leave with_text with_attribute element_at tag_at attribute_at content_at markup_at opening_at closing_at declared_at is_location is_word negative_of positive_of time_of ended milliseconds_of zone_of days_before_month days_before_year
-cut_off_in_a_tag = refl
-
-pub cut_off_in_a_value : track_of (a_point_and (codes "<trkpt lat='3' lon='4"))
-    ≡ the_point true
-unfolding points_from step_at content_step tag_step enter leave with_text with_attribute element_at tag_at attribute_at content_at markup_at opening_at closing_at declared_at is_location is_word negative_of positive_of time_of ended milliseconds_of zone_of days_before_month days_before_year
-cut_off_in_a_value = refl
-
-pub cut_off_in_a_time : track_of (a_point_and (codes "<trkpt lat='3' lon='4'><time>1970-01"))
-    ≡ the_point true
-unfolding points_from step_at content_step tag_step enter leave with_text with_attribute element_at tag_at attribute_at content_at markup_at opening_at closing_at declared_at is_location is_word negative_of positive_of time_of ended milliseconds_of zone_of days_before_month days_before_year
-cut_off_in_a_time = refl
-
-pub cut_off_in_a_comment : track_of (a_point_and (codes "<!-- 2 > 1")) ≡ the_point true
-unfolding points_from step_at content_step tag_step enter leave with_text with_attribute element_at tag_at attribute_at content_at markup_at opening_at closing_at declared_at is_location is_word negative_of positive_of time_of ended milliseconds_of zone_of days_before_month days_before_year
-cut_off_in_a_comment = refl
-
-pub not_well_formed : track_of (a_point_and (codes "<trkpt lat=3></trkpt></gpx>"))
-    ≡ Err (Xml Malformed)
-unfolding points_from step_at content_step tag_step enter leave with_text with_attribute element_at tag_at attribute_at content_at markup_at opening_at closing_at declared_at is_location is_word negative_of positive_of time_of ended milliseconds_of zone_of days_before_month days_before_year
-not_well_formed = refl
+with_more = refl
 
 -- ---- other formats
 
-pub google_earth : track_of (codes "<?xml version='1.0'?><kml></kml>") ≡ Err (Other Kml)
-unfolding points_from step_at content_step tag_step enter leave with_text with_attribute element_at tag_at attribute_at content_at markup_at opening_at closing_at declared_at is_location is_word negative_of positive_of time_of ended milliseconds_of zone_of days_before_month days_before_year
-google_earth = refl
-
-pub training_center : track_of (codes "<TrainingCenterDatabase>") ≡ Err (Other Tcx)
-unfolding points_from step_at content_step tag_step enter leave with_text with_attribute element_at tag_at attribute_at content_at markup_at opening_at closing_at declared_at is_location is_word negative_of positive_of time_of ended milliseconds_of zone_of days_before_month days_before_year
-training_center = refl
-
-pub sentences : track_of (codes "@Sony\n$GPGGA,1") ≡ Err (Other Nmea)
-unfolding points_from step_at content_step content_at
-sentences = refl
+pub others : map track_of (codes "<?xml version='1.0'?><kml></kml>"
+    ∷ codes "<TrainingCenterDatabase>" ∷ codes "@Sony\n$GPGGA,1" ∷ [])
+    ≡ Err (Other Kml) ∷ Err (Other Tcx) ∷ Err (Other Nmea) ∷ []
+unfolding points_from step_at content_step tag_step enter leave with_text with_attribute element_at tag_at attribute_at content_at markup_at opening_at closing_at declared_at is_location is_word
+others = refl
 
 -- the header of a FIT file, and that of a zip archive
 pub fit : other_format (14 ∷ 16 ∷ 84 ∷ 8 ∷ 1 ∷ 0 ∷ 0 ∷ 0 ∷ codes ".FIT") ≡ Some Fit
@@ -355,5 +321,5 @@ a_leap_days_end = refl
 pub a_moments_text
     : moment_text (moment 2024 5 1 (record { hour = 2; minute = 30; second = 1 }) 0)
     ≡ codes "2024-05-01T02:30:01Z"
-unfolding filled digits
+unfolding zero_filled digits
 a_moments_text = refl

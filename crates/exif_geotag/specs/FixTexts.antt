@@ -1,11 +1,8 @@
 -- The text of a location.
-use Rattle.std.specs.Prelude.{ℕ, ◌-◌, ◌/◌, ◌%◌, nat_lt, if◌then◌else◌, List, [], ◌++◌, length, replicate, codes, Option, Some, None}
+use Rattle.std.specs.Prelude.{ℕ, ◌-◌, ◌/◌, ◌%◌, nat_lt, if◌then◌else◌, List, [], ◌++◌, codes, Option, Some, None}
 use Rattle.std.specs.Fmt.{decimal, sign_text}
+use Rattle.exif_text.specs.Plain.{zero_filled}
 use Rattle.exif_geotag.specs.declared.point.Fix.{Fix}
-
--- digits with zeros before them, up to a count
-unfoldable pub zero_filled : ℕ → List ℕ → List ℕ
-zero_filled count digits = replicate (count - length digits) 48 ++ digits
 
 -- how far two numbers are apart
 abbrev pub distance : ℕ → ℕ → ℕ

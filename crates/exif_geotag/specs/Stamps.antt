@@ -2,7 +2,7 @@
 -- seconds of UTC).
 use Rattle.std.specs.Prelude.{ℕ, ◌==◌, if◌then◌else◌, List, [], ◌++◌, codes}
 use Rattle.std.specs.Fmt.{decimal}
-use Rattle.exif_geotag.specs.FixTexts.{zero_filled}
+use Rattle.exif_text.specs.Plain.{zero_filled}
 use Rattle.exif_geotag.specs.declared.moment.Moment.{Moment}
 
 -- a fraction of a second behind a point, if there is one

@@ -7,12 +7,12 @@ use Rattle.exif_change.specs.Refusals.{as_read, unknown_format, ◌>>=◌}
 use Rattle.exif_change.specs.Rewriting.{rewritten}
 use Rattle.exif_change.specs.declared.scrubbing.Removed.TheVariants.{AllButOrientation}
 use Rattle.exif_change.proofs.FoundParts.{with_found_whole}
-use Rattle.exif_change.proofs.Scrubbed.{scrubbed_answers}
+use Rattle.exif_change.proofs.Scrubbed.{jpeg_answers}
 use Rattle.exif_change.proofs.laws.a_scrubbed_jpeg_file_keeps_the_orientation.Goals as goal
 
 pub returns : goal.returns
 returns c = λ file new put format front kept e short.
-    scrubbed_answers put file new c.file_answers_what_was_put.ensures front
+    jpeg_answers remove.Metadata put file new
     (with_found_whole (is_some put) (as_read (rewritten Jpeg remove.Metadata put file)) new
     (sym (ap (λ r. r >>= λ put. with_found (is_some put) (as_read (rewritten Jpeg remove.Metadata put file))) kept)
     ∙ (sym (ap (λ f. elim f [ Some format ↦ scrubbed_as format AllButOrientation file | None ↦ Err unknown_format ]) format) ∙ e))) short
