@@ -1,3 +1,5 @@
+pub mod Answered
 pub mod Checking
 pub mod Names
 pub mod Json
+pub mod Lines

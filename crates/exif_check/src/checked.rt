@@ -4,10 +4,14 @@ ghost use Rattle.std.specs.Prelude.{◌≡◌, length, All, IfOk};
 ghost use Rattle.std.specs.Option.{option_map};
 ghost use Rattle.exif_inventory.specs.Promises.{EndsIn};
 ghost use Rattle.std.specs.List.{list_all, list_any};
+ghost use Rattle.exif_types.specs.Refusals.{Answers};
+ghost use Rattle.exif_check.specs.Answered.{checked_answer, without_parts};
 ghost use Rattle.exif_check.specs.Checking.{checked, is_maker_note, is_no_other, location_among, location_by, location_of, only_maker_note, parts_checked, weight, maker_note_at_most, only_maker_notes};
 
+use exif_formats::{PictureFormat, format_of};
 use exif_inventory::Part;
 use exif_privacy::{Reasons, Unread, Why, parts_of};
+use exif_types::Error;
 use std::alloc::{AllocError, Global};
 
 /// Whether data hold a location.
@@ -127,6 +131,32 @@ pub fn check(alloc: Global, file: &[u8]) -> Result<Option<Vec<Checked>>, AllocEr
     match parts_of(alloc, file)? {
         Some(parts) => Ok(Some(check_parts(alloc, file, parts.as_slice())?)),
         None => Ok(None),
+    }
+}
+
+// What is answered of a file of a format whose parts are not known. A JPEG XL codestream without a
+// container has no metadata.
+fn without_parts(alloc: Global, format: Option<PictureFormat>) -> Result<Vec<Checked>, Error>
+    ensures { Answers (λ v. v.items) result (without_parts format) }
+{
+    match format {
+        Some(PictureFormat::JpegXl) => Ok(Vec::new(alloc)),
+        Some(_) => Err(Error::NotSupported("files of this format are not checked")),
+        None => Err(Error::InvalidFormat("Unknown image format")),
+    }
+}
+
+/// The same as an answer: a JPEG XL codestream has no parts, a file of another format that is known
+/// is NotSupported, and any other file InvalidFormat.
+pub fn check_picture(
+    alloc: Global,
+    file: &[u8],
+) -> Result<Result<Vec<Checked>, Error>, AllocError>
+    ensures { IfOk result (λ answer. Answers (λ v. v.items) answer (checked_answer file.now)) }
+{
+    match check(alloc, file)? {
+        Some(parts) => Ok(Ok(parts)),
+        None => Ok(without_parts(alloc, format_of(file))),
     }
 }
 

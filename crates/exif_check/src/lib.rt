@@ -6,9 +6,11 @@
 
 mod checked;
 mod line;
+mod lines;
 mod names;
 mod object;
 
-pub use checked::{Checked, Location, check, is_only_maker_notes, location_of};
+pub use checked::{Checked, Location, check, check_picture, is_only_maker_notes, location_of};
 pub use line::{Line, is_listed};
+pub use lines::lines_of;
 pub use object::check_json;

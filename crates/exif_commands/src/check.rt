@@ -5,10 +5,10 @@ ghost use Rattle.exif_commands.specs.Checks.{outcome_by};
 
 use exif::{Error, Sink};
 use exif_check::{
-    Checked, Line, Location, check, check_json, is_listed, is_only_maker_notes, location_of,
+    Checked, Location, check_json, check_picture, is_only_maker_notes, lines_of, location_of,
 };
 use exif_decisions::{Escaped, Outcome};
-use exif_formats::{PictureFormat, format_of};
+use exif_formats::format_of;
 use exif_json::json_of_answer;
 use exif_session::{Form, Session, Stop, read_file};
 use std::alloc::{AllocError, Global};
@@ -26,20 +26,10 @@ fn outcome_of_location(location: Location, only_maker_notes: bool, strict: bool)
     }
 }
 
-// Lines of the parts that hold metadata, or may hold some.
-fn lines_of(alloc: Global, path: &str, parts: &[Checked]) -> Result<String, AllocError> {
-    let name = Escaped(path);
-    let mut text = String::new(alloc);
-    for checked in parts {
-        if is_listed(*checked) {
-            let line = format!(in alloc; "{name}: {}\n", Line(*checked))?;
-            text.push_str(line.as_str())?;
-        }
-    }
-    if text.is_empty() {
-        return format!(in alloc; "{name}: no metadata\n");
-    }
-    Ok(text)
+// The lines of the parts that hold metadata, or may hold some.
+fn lines_by_name(alloc: Global, path: &str, parts: &[Checked]) -> Result<Vec<u8>, AllocError> {
+    let name = format!(in alloc; "{}", Escaped(path))?;
+    Ok(lines_of(alloc, name.as_str(), parts)?.into_bytes())
 }
 
 // The object of a file, in a line.
@@ -52,18 +42,6 @@ fn json_line(
     let mut text = check_json(alloc, path.as_bytes(), format_of(file), parts)?;
     text.push(b'\n')?;
     Ok(text)
-}
-
-// What a file holds, or why it is not checked. A JPEG XL codestream without a container has no
-// metadata.
-fn parts_of(alloc: Global, file: &[u8]) -> Result<Result<Vec<Checked>, Error>, AllocError> {
-    let answer = match (check(alloc, file)?, format_of(file)) {
-        (Some(parts), _) => Ok(parts),
-        (None, Some(PictureFormat::JpegXl)) => Ok(Vec::new(alloc)),
-        (None, Some(_)) => Err(Error::NotSupported("files of this format are not checked")),
-        (None, None) => Err(Error::InvalidFormat("Unknown image format")),
-    };
-    Ok(answer)
 }
 
 /// Writes what the parts of a file hold, and answers its status.
@@ -99,12 +77,12 @@ fn answer_of(
         Ok(file) => file,
         Err(cause) => return Ok(Err(Error::Io(cause))),
     };
-    let parts = match parts_of(alloc, file.as_slice())? {
+    let parts = match check_picture(alloc, file.as_slice())? {
         Ok(parts) => parts,
         Err(error) => return Ok(Err(error)),
     };
     let text = match form {
-        Form::Lines => lines_of(alloc, path, parts.as_slice())?.into_bytes(),
+        Form::Lines => lines_by_name(alloc, path, parts.as_slice())?,
         Form::Json => json_line(alloc, path, file.as_slice(), parts.as_slice())?,
     };
     let location = location_of(parts.as_slice());

@@ -1,30 +1,21 @@
 //! Pictures that get their location from the track of a GPS receiver.
 
-use exif::{Error, Exif, Sink, Tag};
+use exif::{Error, Sink, Tag};
 use exif_change::{Assignment, Refusal};
 use exif_decisions::Outcome;
 use exif_files::{Failure, HostFiles, Status, change};
 use exif_geotag::{
-    DateStamp, Fix, Moment, Relocation, TimeStamp, Track, fix_of_picture, moment_at, stale_tags,
-    time_of_picture,
+    DateStamp, Relocation, Spot, TimeStamp, Track, TrackFault, Unlocated, spot_of_picture,
 };
-use exif_session::{Geotagging, NotChanged, Plan, Session, Stop, exif_of, outcome_of, read_file};
-use exif_summary::{LATITUDE, LONGITUDE, find_degrees};
-use std::alloc::AllocError;
+use exif_session::{
+    Geotagging, NotChanged, Plan, Session, Stop, exif_if_any, outcome_of, read_file,
+};
 
 // The location of a picture and its time, and which of its fields are of an old one.
 #[derive(Drop)]
-struct Spot {
-    fix: Fix,
-    moment: Moment,
+struct Located {
+    spot: Spot,
     stale: Vec<Tag>,
-}
-
-// The location of a picture, or why it is not known.
-#[derive(Drop)]
-enum Located {
-    At(Spot),
-    Unknown(&'static str),
 }
 
 /// Sets the location of each file that is named or found, in place, by a track, and counts it. A file without a date, or of a time at which the track was nowhere, is left and
@@ -59,8 +50,8 @@ fn track_of<W: Sink, E: Sink>(
     };
     match Track::read(session.rt.alloc(), bytes.as_slice())? {
         Ok(track) => {
-            skip_points(session, path, track.skipped())?;
-            report_cut(session, path, &track)?;
+            report_fault(session, path, track.skipped_fault())?;
+            report_fault(session, path, track.cut_fault())?;
             Ok(Some(track))
         }
         Err(error) => {
@@ -70,47 +61,16 @@ fn track_of<W: Sink, E: Sink>(
     }
 }
 
-// Reports and counts that points of a track were skipped, if some were.
-fn skip_points<W: Sink, E: Sink>(
+// Reports and counts what a track lacks.
+fn report_fault<W: Sink, E: Sink>(
     session: &mut Session<'_, '_, W, E>,
     path: &str,
-    count: usize,
+    fault: Option<TrackFault>,
 ) -> Result<(), Stop> {
-    if count == 0 {
-        return Ok(());
+    if let Some(fault) = fault {
+        session.say(path, &fault)?;
+        session.count_beside(Status::Incomplete);
     }
-    if count == 1 {
-        session.say(path, &"1 point without a time or a location was skipped")?;
-    } else {
-        let alloc = session.rt.alloc();
-        let text = format!(in alloc; "{count} points without a time or a location were skipped")?;
-        session.say(path, &text)?;
-    }
-    session.count_beside(Status::Incomplete);
-    Ok(())
-}
-
-// Reports and counts that a track is cut off, if it is.
-fn report_cut<W: Sink, E: Sink>(
-    session: &mut Session<'_, '_, W, E>,
-    path: &str,
-    track: &Track,
-) -> Result<(), Stop> {
-    if !track.is_cut_off() {
-        return Ok(());
-    }
-    let last = match track.points().last() {
-        Some(point) => moment_at(point.time),
-        None => None,
-    };
-    if let Some(last) = last {
-        let alloc = session.rt.alloc();
-        let text = format!(in alloc; "the file is cut off; the track is used up to {last}")?;
-        session.say(path, &text)?;
-    } else {
-        session.say(path, &"the file is cut off; the track is used up to there")?;
-    }
-    session.count_beside(Status::Incomplete);
     Ok(())
 }
 
@@ -123,12 +83,12 @@ fn geotag_file<W: Sink, E: Sink>(
     key: &str,
 ) -> Result<Outcome, Stop> {
     match location_of_file(session.rt, geotagging, track, key) {
-        Ok(Located::At(spot)) => {
-            let outcome = relocate_file(session, geotagging, &spot, path, key)?;
+        Ok(Ok(located)) => {
+            let outcome = relocate_file(session, geotagging, &located, path, key)?;
             session.console.step(session.pending.len());
             Ok(outcome)
         }
-        Ok(Located::Unknown(why)) => session.leave(path, &why),
+        Ok(Err(why)) => session.leave(path, &why),
         Err(Error::OutOfMemory) => Err(Stop::OutOfMemory),
         Err(error) => session.refuse(path, &error),
     }
@@ -138,12 +98,13 @@ fn geotag_file<W: Sink, E: Sink>(
 fn relocate_file<W: Sink, E: Sink>(
     session: &mut Session<'_, '_, W, E>,
     geotagging: &Geotagging<'_>,
-    spot: &Spot,
+    located: &Located,
     path: &str,
     key: &str,
 ) -> Result<Outcome, Stop> {
     let alloc = session.rt.alloc();
-    let (fix, day, time) = (spot.fix, DateStamp(spot.moment), TimeStamp(spot.moment));
+    let Spot { fix, moment } = located.spot;
+    let (day, time) = (DateStamp(moment), TimeStamp(moment));
     let location = format!(in alloc; "Location={fix}")?;
     let day = format!(in alloc; "{day}")?;
     let time = format!(in alloc; "{time}")?;
@@ -158,7 +119,7 @@ fn relocate_file<W: Sink, E: Sink>(
     }
     let relocation = Relocation {
         values: values.as_slice(),
-        stale: spot.stale.as_slice(),
+        stale: located.stale.as_slice(),
     };
     replace_file(session, geotagging, &relocation, path, key)
 }
@@ -187,52 +148,26 @@ fn replace_file<W: Sink, E: Sink>(
     Ok(outcome)
 }
 
-// The location of a file's picture; or why it can't be read.
+// The location of a file's picture, or why it gets none; or why it can't be read.
 fn location_of_file(
     rt: &HostRuntime,
     geotagging: &Geotagging<'_>,
     track: &Track,
     path: &str,
-) -> Result<Located, Error> {
-    match exif_of(rt, path) {
-        Ok(exif) => match location_by(rt, &exif, geotagging, track) {
-            Ok(located) => Ok(located),
+) -> Result<Result<Located, Unlocated>, Error> {
+    let exif = exif_if_any(rt, path)?;
+    let spot = spot_of_picture(
+        exif.as_ref(),
+        geotagging.zone.as_bytes(),
+        track,
+        geotagging.max_gap,
+        geotagging.overwrite,
+    );
+    match spot {
+        Ok(spot) => match spot.stale_tags(rt.alloc(), exif.as_ref()) {
+            Ok(stale) => Ok(Ok(Located { spot, stale })),
             Err(_memory) => Err(Error::OutOfMemory),
         },
-        Err(Error::NotFound(_)) => Ok(Located::Unknown(NO_DATE)),
-        Err(error) => Err(error),
+        Err(why) => Ok(Err(why)),
     }
-}
-
-const NO_DATE: &str = "no location is set: it has no date";
-
-const HAS_LOCATION: &str = "no location is set: it has one; --overwrite replaces it";
-
-// Whether a picture has a location already.
-fn has_location(exif: &Exif) -> bool {
-    find_degrees(exif, &LATITUDE).is_some() && find_degrees(exif, &LONGITUDE).is_some()
-}
-
-fn location_by(
-    rt: &HostRuntime,
-    exif: &Exif,
-    geotagging: &Geotagging<'_>,
-    track: &Track,
-) -> Result<Located, AllocError> {
-    let zone = geotagging.zone.as_bytes();
-    let Some(time) = time_of_picture(exif, zone) else {
-        return Ok(Located::Unknown(NO_DATE));
-    };
-    if !geotagging.overwrite && has_location(exif) {
-        return Ok(Located::Unknown(HAS_LOCATION));
-    }
-    let found = (
-        fix_of_picture(exif, zone, track, geotagging.max_gap),
-        moment_at(time),
-    );
-    let (Some(fix), Some(moment)) = found else {
-        return Ok(Located::Unknown("no location is set: the track has none for its time"));
-    };
-    let stale = stale_tags(rt.alloc(), exif, fix.elevation.is_some())?;
-    Ok(Located::At(Spot { fix, moment, stale }))
 }

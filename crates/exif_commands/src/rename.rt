@@ -1,15 +1,15 @@
 //! Files that get other names, by when and with which camera they were taken.
 
 use crate::moves::{Folders, Moving, move_all};
-use crate::names::{Named, new_name, split_name};
+use crate::names::{new_name, split_name};
 use crate::present::{Sizes, There, find_there};
 use exif::Sink;
-use exif_decisions::{Escaped, Found, NotRead, Outcome, ending_of};
+use exif_decisions::{Escaped, Found, NotRead, Outcome, ending_of, slash_after};
 use exif_files::{HostFiles, folder_of};
 use exif_rename::{
     Entry, Moment, PlanError, Shot, Wish, WishFile, compare_shots, group, plan_names, root_of,
 };
-use exif_session::{Next, Renaming, Session, Stop, key_of, name_of};
+use exif_session::{NewName, Next, Renaming, Session, Stop, key_of, name_of};
 use std::alloc::{AllocError, Global};
 use std::collections::BTreeSet;
 use std::{fs, io};
@@ -256,7 +256,7 @@ fn add_stem<W: Sink, E: Sink>(
             continue;
         }
         match new_name(session.rt, renaming, member.key.as_str())? {
-            Ok(Named::New(name, moment)) => {
+            Ok(Ok(NewName { name, moment })) => {
                 let wish = wish_of(session.rt.alloc(), into, together, member, name.as_str())?;
                 stems.push(Stem {
                     wish,
@@ -266,7 +266,7 @@ fn add_stem<W: Sink, E: Sink>(
                 })?;
                 return Ok(());
             }
-            Ok(Named::Missing(_)) => {}
+            Ok(Err(_missing)) => {}
             Err(error) => refuse(session, member.path.as_str(), &error)?,
         }
     }
@@ -285,7 +285,7 @@ fn leave_all<W: Sink, E: Sink>(
         match member.kind {
             Kind::Picture => {
                 let named = new_name(session.rt, renaming, member.key.as_str())?;
-                if let Ok(Named::Missing(missing)) = named {
+                if let Ok(Err(missing)) = named {
                     let outcome = session.leave(path, &missing)?;
                     session.count(outcome);
                 }
@@ -326,7 +326,7 @@ fn wish_of(
     } else {
         into
     };
-    let slash = if folder.ends_with('/') { "" } else { "/" };
+    let slash = slash_after(folder);
     let base = format!(in alloc; "{folder}{slash}{name}")?;
     let mut files = Vec::new(alloc);
     for member in together {

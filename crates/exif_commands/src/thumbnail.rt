@@ -2,7 +2,7 @@
 
 use exif::{Error, Sink};
 use exif_change::Refusal;
-use exif_decisions::Outcome;
+use exif_decisions::{Outcome, slash_after};
 use exif_rename::give_unused;
 use exif_session::{Item, Session, Stop, name_of, out_of, thumbnail_of, write_out};
 use exif_thumbnails::Thumbnail;
@@ -110,6 +110,6 @@ fn thumbnail_in(rt: &HostRuntime, path: &str) -> Result<Vec<u8>, Refusal> {
 // so that the thumbnails of `a.png` and `a.heic` are two.
 fn base_in(alloc: Global, folder: &str, path: &str) -> Result<String, AllocError> {
     let name = name_of(path);
-    let slash = if folder.ends_with('/') { "" } else { "/" };
+    let slash = slash_after(folder);
     format!(in alloc; "{folder}{slash}{name}")
 }

@@ -2,14 +2,11 @@
 
 use exif::{Error, Exif, Sink};
 use exif_decisions::Outcome;
-use exif_geotag::time_of_picture;
-use exif_session::{Session, Stop, exif_of};
+use exif_geotag::unix_time_of_picture;
+use exif_session::{Session, Stop, exif_if_any};
 use std::fs::File;
 use std::io;
 use std::time::{Duration, SystemTime};
-
-// The milliseconds from the year 0, from which pictures count, to 1970, from which file systems do.
-const TO_1970: u64 = 719_528 * 86_400_000;
 
 /// Sets the modification time of a file to when its picture was taken, and answers its status.
 /// `zone` is the offset from UTC of pictures that name none. A file is left, and reported, where
@@ -34,12 +31,8 @@ pub fn touch_file<W: Sink, E: Sink>(
 
 // Sets the time of a file; whether it is known.
 fn touch(rt: &HostRuntime, zone: &str, path: &str) -> Result<bool, Error> {
-    let exif = match exif_of(rt, path) {
-        Ok(exif) => exif,
-        Err(Error::NotFound(_)) => return Ok(false),
-        Err(error) => return Err(error),
-    };
-    let Some(time) = system_time_of(&exif, zone) else {
+    let exif = exif_if_any(rt, path)?;
+    let Some(time) = system_time_of(exif.as_ref(), zone) else {
         return Ok(false);
     };
     match set_time(rt, path, time) {
@@ -52,8 +45,7 @@ fn set_time(rt: &HostRuntime, path: &str, time: SystemTime) -> io::Result<()> {
     File::open(rt, path)?.set_modified(time)
 }
 
-fn system_time_of(exif: &Exif, zone: &str) -> Option<SystemTime> {
-    let time = time_of_picture(exif, zone.as_bytes())?;
-    let since_1970 = Duration::from_millis(time.checked_sub(TO_1970)?);
+fn system_time_of(exif: Option<&Exif>, zone: &str) -> Option<SystemTime> {
+    let since_1970 = Duration::from_millis(unix_time_of_picture(exif, zone.as_bytes())?);
     SystemTime::UNIX_EPOCH.checked_add(since_1970)
 }

@@ -6,6 +6,8 @@ use Rattle.exif_decisions.specs.declared.formats.Unsupported.{Unsupported}
 use Rattle.exif_decisions.specs.declared.formats.Unsupported.TheVariants as format
 use Rattle.exif_decisions.specs.declared.found.Found.{Found}
 use Rattle.exif_decisions.specs.declared.found.Found.TheVariants as found
+use Rattle.exif_decisions.specs.declared.found.FoundStep.{FoundStep}
+use Rattle.exif_decisions.specs.declared.found.FoundStep.TheVariants.{Choose, Beside, Skip}
 use Rattle.exif_decisions.specs.declared.found.NotRead.{NotRead}
 use Rattle.exif_decisions.specs.declared.found.NotRead.TheVariants.{Format, Damaged, Empty, Sidecar}
 
@@ -60,3 +62,17 @@ abbrev pub class_for : Bool → Bool → Option Unsupported → Option Ending �
 class_for true is_empty format ending = found.Picture
 class_for false is_empty (Some format) ending = found.NotRead (Format format)
 class_for false is_empty None ending = class_without is_empty ending
+
+-- A picture is processed if it is chosen; a file that is not read goes with the pictures beside it
+-- where such files do, and all else is skipped.
+abbrev pub step_for : Found → Bool → FoundStep
+step_for found.Picture moves_companions = Choose
+step_for (found.NotRead why) true = Beside why
+step_for (found.NotRead why) false = Skip
+step_for found.Other moves_companions = Skip
+
+-- what is reported of a file that is skipped
+abbrev pub reported_of : Found → Option NotRead
+reported_of found.Picture = None
+reported_of (found.NotRead why) = if is_named_by why then Some why else None
+reported_of found.Other = None

@@ -1,7 +1,10 @@
 pub mod Endings
 pub mod Found
 pub mod Outcomes
+pub mod Paths
 pub mod Rules
 pub mod Tags
 pub mod Tallies
+pub mod Temporary
+pub mod Timing
 pub mod Unsupported

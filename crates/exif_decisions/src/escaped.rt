@@ -1,5 +1,8 @@
 //! Names and values as they are printed for people.
 
+ghost use Rattle.std.specs.Prelude.{◌≡◌};
+ghost use Rattle.exif_decisions.specs.Rules.{is_unreadable};
+
 use std::alloc::{AllocError, Global};
 use std::fmt;
 
@@ -56,6 +59,8 @@ pub fn readable(alloc: Global, name: &[u8]) -> Result<String, AllocError> {
 }
 
 /// Whether a name is one that [`readable`] made of bytes that are no UTF-8.
-pub fn is_unreadable(name: &str) -> bool {
-    name.as_bytes().contains(&0)
+pub fn is_unreadable(name: &str) -> bool
+    ensures { result ≡ is_unreadable name.now }
+{
+    name.as_bytes().iter().any(|byte| *byte == 0)
 }

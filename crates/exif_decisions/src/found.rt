@@ -1,7 +1,7 @@
 //! What is done with a file that was found in a folder.
 
 ghost use Rattle.std.specs.Prelude.{◌≡◌};
-ghost use Rattle.exif_decisions.specs.Found.{class_for, class_by_ending, is_named_by};
+ghost use Rattle.exif_decisions.specs.Found.{class_for, class_by_ending, is_named_by, reported_of, step_for};
 
 use crate::endings::Ending;
 use crate::formats::Unsupported;
@@ -39,6 +39,40 @@ impl NotRead {
         match self {
             NotRead::Format(_) | NotRead::Damaged(_) | NotRead::Empty(_) => true,
             NotRead::Sidecar(_) => false,
+        }
+    }
+}
+
+/// What comes next of a file that was found in a folder.
+#[derive(Clone, Copy, PartialEq, Eq)]
+pub enum FoundStep {
+    /// It is processed if it is chosen.
+    Choose,
+    /// It is not read, but goes with the pictures beside it.
+    Beside(NotRead),
+    /// It is skipped.
+    Skip,
+}
+
+impl Found {
+    /// What comes next, by whether files that are not read go with the pictures beside them.
+    pub fn step(self, moves_companions: bool) -> FoundStep
+        ensures { result ≡ step_for self moves_companions }
+    {
+        match self {
+            Found::Picture => FoundStep::Choose,
+            Found::NotRead(why) if moves_companions => FoundStep::Beside(why),
+            Found::NotRead(_) | Found::Other => FoundStep::Skip,
+        }
+    }
+
+    /// What is reported of it where it is skipped, if something is.
+    pub fn reported(self) -> Option<NotRead>
+        ensures { result ≡ reported_of self }
+    {
+        match self {
+            Found::NotRead(why) if why.is_named() => Some(why),
+            _ => None,
         }
     }
 }

@@ -8,17 +8,23 @@ mod escaped;
 mod formats;
 mod found;
 mod outcome;
+mod paths;
 mod rules;
 mod tags;
+mod temporary;
+mod timing;
 
 pub use counts::{Counts, Summary};
 pub use endings::{Ending, ending_of};
 pub use escaped::{Escaped, is_unreadable, readable};
 pub use formats::{Unsupported, unsupported_of};
-pub use found::{Found, NotRead, found_of};
+pub use found::{Found, FoundStep, NotRead, found_of};
 pub use outcome::Outcome;
+pub use paths::{is_inside, name_of, slash_after};
 pub use rules::{
-    Action, Destination, Existing, Kind, NoDestination, action_of, destination_of, is_assignment,
-    is_own_name, is_temporary_name,
+    Action, Destination, Existing, Kind, Look, NoDestination, action_of, destination_of,
+    existing_of, is_assignment, is_own_name, is_temporary_name, kind_of, look_of,
 };
 pub use tags::{canonical_word, nearest, write_tags};
+pub use temporary::{Fate, fate_of};
+pub use timing::is_line_due;

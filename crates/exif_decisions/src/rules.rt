@@ -3,7 +3,9 @@
 ghost use Rattle.std.specs.Prelude.{◌≡◌, ◌≤◌, true, drop, length};
 ghost use Rattle.std.specs.Char.{is_ascii_digit};
 ghost use Rattle.std.specs.List.{list_all};
-ghost use Rattle.exif_decisions.specs.Rules.{action_for, destination_for, is_own, is_temporary, assigns};
+ghost use Rattle.exif_decisions.specs.Rules.{action_by_name, action_for, destination_for, existing_for, is_own, is_temporary, assigns, kind_for, look_for};
+
+use crate::escaped::is_unreadable;
 
 /// What a path is.
 #[derive(Clone, Copy, PartialEq, Eq)]
@@ -12,6 +14,45 @@ pub enum Kind {
     Folder,
     Link,
     Other,
+}
+
+/// The kind of a path, by what the system says of it.
+pub fn kind_of(is_folder: bool, is_file: bool, is_link: bool) -> Kind
+    ensures { result ≡ kind_for is_folder is_file is_link }
+{
+    if is_folder {
+        Kind::Folder
+    } else if is_file {
+        Kind::File
+    } else if is_link {
+        Kind::Link
+    } else {
+        Kind::Other
+    }
+}
+
+/// What a path is before the system is asked.
+#[derive(Clone, Copy, PartialEq, Eq)]
+pub enum Look {
+    /// Standard input.
+    Input,
+    /// A name that is no UTF-8, as [`readable`](crate::readable) writes it.
+    Unreadable,
+    /// Another one.
+    Path,
+}
+
+/// What a path is before the system is asked: `-` is standard input only where it was named.
+pub fn look_of(path: &str, is_named: bool) -> Look
+    ensures { result ≡ look_for path.now is_named }
+{
+    if is_named && path == "-" {
+        Look::Input
+    } else if is_unreadable(path) {
+        Look::Unreadable
+    } else {
+        Look::Path
+    }
 }
 
 /// What is done with a path.
@@ -29,14 +70,29 @@ pub enum Action {
     SkipLink,
     /// It is skipped and counted as a file of the program's own.
     SkipOwn,
+    /// The same, and it is reported: a file that is being written, or that a run left.
+    SkipTemporary,
     /// It is skipped: a device, say.
     Ignore,
 }
 
-/// What is done with a path: one that was named, whose links were followed, or one that was found
-/// in a folder.
-pub fn action_of(kind: Kind, is_named: bool, is_own: bool, recursive: bool) -> Action
-    ensures { result ≡ action_for kind is_named is_own recursive }
+// What is done with a file of this name that was found in a folder.
+fn action_by_name(name: &str) -> Action
+    ensures { result ≡ action_by_name name.now }
+{
+    if is_temporary_name(name) {
+        Action::SkipTemporary
+    } else if is_own_name(name) {
+        Action::SkipOwn
+    } else {
+        Action::ProcessPicture
+    }
+}
+
+/// What is done with a path, whose last part is `name`: one that was named, whose links were
+/// followed, or one that was found in a folder.
+pub fn action_of(kind: Kind, is_named: bool, name: &str, recursive: bool) -> Action
+    ensures { result ≡ action_for kind is_named name.now recursive }
 {
     match (kind, is_named) {
         (Kind::Folder, true) if !recursive => Action::RefuseFolder,
@@ -44,8 +100,7 @@ pub fn action_of(kind: Kind, is_named: bool, is_own: bool, recursive: bool) -> A
         (_, true) => Action::Process,
         (Kind::Link, false) => Action::SkipLink,
         (Kind::Other, false) => Action::Ignore,
-        (Kind::File, false) if is_own => Action::SkipOwn,
-        (Kind::File, false) => Action::ProcessPicture,
+        (Kind::File, false) => action_by_name(name),
     }
 }
 
@@ -90,6 +145,19 @@ pub enum Existing {
     Regular,
     /// A folder or a device, say.
     Special,
+}
+
+/// What an OUT is: whether the file that it leads to is a regular one, if it leads to one, and
+/// whether the name itself is there. A link that leads nowhere is no regular file.
+pub fn existing_of(leads_to_file: Option<bool>, is_there: bool) -> Existing
+    ensures { result ≡ existing_for leads_to_file is_there }
+{
+    match leads_to_file {
+        Some(true) => Existing::Regular,
+        Some(false) => Existing::Special,
+        None if is_there => Existing::Special,
+        None => Existing::Absent,
+    }
 }
 
 /// Where a new file is written.

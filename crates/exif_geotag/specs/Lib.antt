@@ -2,11 +2,13 @@ pub mod Erasing
 pub mod Located
 pub mod Relocating
 pub mod Replaced
+pub mod Spots
 pub mod Stamps
 pub mod Between
 pub mod Elements
 pub mod Errors
 pub mod Examples
+pub mod Faults
 pub mod FixTexts
 pub mod Formats
 pub mod Gaps
@@ -21,3 +23,4 @@ pub mod Texts
 pub mod Times
 pub mod Walks
 pub mod UnfinishedTexts
+pub mod UnixTimes

@@ -1,13 +1,10 @@
--- Where a picture was taken by a track (Exif 2.32, 4.6.5: DateTimeOriginal, SubSecTimeOriginal and
+-- When a picture was taken (Exif 2.32, 4.6.5: DateTimeOriginal, SubSecTimeOriginal and
 -- OffsetTimeOriginal).
 use Rattle.std.specs.Prelude.{ℕ, List, [], Option, None, Some, option_and_then}
 use Rattle.exif_table.specs.declared.context.Context.TheVariants.{Exif}
 use Rattle.exif_types.specs.declared.field.Field.{Field}
 use Rattle.exif_summary.specs.Finding.{text_found}
-use Rattle.exif_geotag.specs.Between.{fix_at}
 use Rattle.exif_geotag.specs.Times.{exif_time_of}
-use Rattle.exif_geotag.specs.declared.point.Fix.{Fix}
-use Rattle.exif_geotag.specs.declared.point.Point.{Point}
 
 -- a text, or another where there is none
 abbrev pub text_or : Option (List ℕ) → List ℕ → List ℕ
@@ -19,8 +16,3 @@ abbrev pub time_in : List Field → List ℕ → Option ℕ
 time_in fields zone =
     option_and_then (λ date. exif_time_of date (text_or (text_found fields Exif 37521) [])
     (text_or (text_found fields Exif 36881) zone)) (text_found fields Exif 36867)
-
--- where it was taken, by a track whose points may be so far apart
-abbrev pub fix_in : List Field → List ℕ → ℕ → List Point → Option Fix
-fix_in fields zone max_gap points =
-    option_and_then (λ time. fix_at max_gap time points) (time_in fields zone)

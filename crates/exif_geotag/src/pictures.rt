@@ -1,11 +1,9 @@
-//! Where and when a picture was taken.
+//! When a picture was taken.
 
 ghost use Rattle.std.specs.Prelude.{◌≡◌, option_map};
-ghost use Rattle.exif_geotag.specs.Located.{fix_in, text_or, time_in};
+ghost use Rattle.exif_geotag.specs.Located.{text_or, time_in};
 
-use crate::point::Fix;
 use crate::time::exif_time_of;
-use crate::track::Track;
 use exif_summary::find_text;
 use exif_types::{Exif, Tag};
 
@@ -30,13 +28,4 @@ pub fn time_of_picture(exif: &Exif, zone: &[u8]) -> Option<u64>
     let subsec = text_or(find_text(exif, Tag::SubSecTimeOriginal), b"");
     let offset = text_or(find_text(exif, Tag::OffsetTimeOriginal), zone);
     exif_time_of(date, subsec, offset)
-}
-
-/// The location of a track at the time of a picture; `None` where the picture has no date, or the
-/// track has no location at its time: its points around that may be `max_gap` milliseconds apart.
-pub fn fix_of_picture(exif: &Exif, zone: &[u8], track: &Track, max_gap: u64) -> Option<Fix>
-    ensures { result ≡ fix_in exif.now.fields zone.now max_gap track.now.points }
-{
-    let time = time_of_picture(exif, zone)?;
-    track.at(time, max_gap)
 }

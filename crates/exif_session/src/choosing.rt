@@ -2,6 +2,7 @@
 
 ghost use Rattle.std.specs.Prelude.{◌≡◌, IfOk, OnErr};
 ghost use Rattle.exif_session.specs.Chosen.{is_chosen};
+ghost use Rattle.exif_session.specs.Found.{exif_found};
 ghost use Rattle.exif_types.specs.declared.error.Error.TheVariants.{OutOfMemory};
 
 use crate::inputs::{open, read};
@@ -48,4 +49,20 @@ pub fn exif_of(rt: &HostRuntime, path: &str) -> Result<Exif, Error> {
     };
     let (exif, _faults) = found_of(rt.alloc(), picture.answer)?;
     Ok(exif)
+}
+
+/// The same; nothing where the picture has no Exif data.
+pub fn exif_if_any(rt: &HostRuntime, path: &str) -> Result<Option<Exif>, Error> {
+    exif_found(exif_of(rt, path))
+}
+
+// What was read of a picture, where one without Exif data was read, too.
+fn exif_found(read: Result<Exif, Error>) -> Result<Option<Exif>, Error>
+    ensures { result ≡ exif_found read }
+{
+    match read {
+        Ok(exif) => Ok(Some(exif)),
+        Err(Error::NotFound(_)) => Ok(None),
+        Err(error) => Err(error),
+    }
 }

@@ -8,12 +8,11 @@ use crate::change::ChangeEdit;
 use crate::change_out::change_input;
 use crate::console::Console;
 use crate::notes::NoteLine;
-use crate::pending::name_of;
 use crate::request::Change;
 use crate::session::{Item, Session, Stop};
 use exif::Sink;
 use exif_change::{Left, Note, Refusal};
-use exif_decisions::{Counts, Escaped, Outcome};
+use exif_decisions::{Counts, Escaped, Outcome, name_of, slash_after};
 use exif_files::{
     Failure, HostFiles, Keeping, Report, Reporter, WriteError, change_all, folder_of,
 };
@@ -130,7 +129,7 @@ pub fn absolute_of(rt: &HostRuntime, path: &str) -> Result<String, AllocError> {
     match fs::canonicalize(rt, folder) {
         Ok(found) if !name.is_empty() => {
             let folder = found.as_path().as_str();
-            let slash = if folder.ends_with('/') { "" } else { "/" };
+            let slash = slash_after(folder);
             format!(in alloc; "{folder}{slash}{name}")
         }
         _ => String::from_str(alloc, path),

@@ -5,10 +5,9 @@ ghost use Rattle.std.specs.Prelude.{◌≡◌};
 ghost use Rattle.exif_formats.specs.Formats.{format_in};
 ghost use Rattle.exif_session.specs.Uses.{has_parts, serves};
 
-use crate::pending::name_of;
 use exif::{Counted, Error, Seekable};
 use exif_containers::container::SNIFF_LEN;
-use exif_decisions::{Found, ending_of, found_of, unsupported_of};
+use exif_decisions::{Found, ending_of, found_of, name_of, unsupported_of};
 use exif_formats::{Options, Picture, PictureFormat, format_of, read_picture};
 use std::alloc::Global;
 use std::fs::File;

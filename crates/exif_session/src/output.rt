@@ -3,7 +3,7 @@
 use crate::session::Stop;
 use exif::Sink;
 use exif_base::send_all;
-use exif_decisions::{Destination, Escaped, Existing, NoDestination, destination_of};
+use exif_decisions::{Destination, Escaped, Existing, NoDestination, destination_of, existing_of};
 use exif_files::{HostFiles, WriteError, create_new, replace};
 use std::alloc::{AllocError, Global};
 use std::{fmt, fs};
@@ -48,7 +48,7 @@ pub fn out_of(
     to: &str,
     force: bool,
 ) -> Result<Result<Destination, OutError>, AllocError> {
-    let existing = existing_of(rt, to);
+    let existing = existing_at(rt, to);
     let destination = destination_of(to == "-", is_same(rt, path, to), existing, force);
     let to = String::from_str(rt.alloc(), to)?;
     Ok(match destination {
@@ -104,16 +104,13 @@ fn replace_out(rt: &HostRuntime, to: &str, bytes: &[u8]) -> Result<(), WriteErro
     )
 }
 
-// What OUT is. A link that leads nowhere is no regular file.
-fn existing_of(rt: &HostRuntime, to: &str) -> Existing {
-    match fs::metadata(rt, to) {
-        Ok(found) if found.is_file() => Existing::Regular,
-        Ok(_) => Existing::Special,
-        Err(_nothing) => match fs::symlink_metadata(rt, to) {
-            Ok(_link) => Existing::Special,
-            Err(_nothing) => Existing::Absent,
-        },
-    }
+// What OUT is.
+fn existing_at(rt: &HostRuntime, to: &str) -> Existing {
+    let leads_to_file = match fs::metadata(rt, to) {
+        Ok(found) => Some(found.is_file()),
+        Err(_nothing) => None,
+    };
+    existing_of(leads_to_file, fs::symlink_metadata(rt, to).is_ok())
 }
 
 // Whether two paths lead to one file.

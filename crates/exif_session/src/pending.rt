@@ -1,11 +1,11 @@
 //! The files that are named, and those in folders, one after the other.
 
 use exif_decisions::{
-    Action, Counts, Kind, NotRead, action_of, is_own_name, is_temporary_name, is_unreadable,
-    readable,
+    Action, Counts, Look, NotRead, action_of, is_inside, kind_of, look_of, name_of, readable,
+    slash_after,
 };
 use std::alloc::{AllocError, Global};
-use std::fs::{self, Metadata};
+use std::fs;
 use std::io::{self, ErrorKind, Read};
 use std::rt::Files;
 
@@ -102,12 +102,14 @@ impl Pending {
     // What a name leads to: nothing where it is a folder, whose files wait then, or is skipped.
     fn follow(&mut self, rt: &HostRuntime, waiting: Waiting) -> Result<Option<Next>, AllocError> {
         let Waiting { path, is_named } = waiting;
-        if path.as_str() == "-" && is_named {
-            return Ok(Some(Next::Input));
-        }
-        if is_unreadable(path.as_str()) {
-            let cause = io::Error::new(ErrorKind::InvalidFilename, "the name is not valid UTF-8");
-            return Ok(Some(Next::Failed(path, cause)));
+        match look_of(path.as_str(), is_named) {
+            Look::Input => return Ok(Some(Next::Input)),
+            Look::Unreadable => {
+                let cause =
+                    io::Error::new(ErrorKind::InvalidFilename, "the name is not valid UTF-8");
+                return Ok(Some(Next::Failed(path, cause)));
+            }
+            Look::Path => {}
         }
         let found = if is_named {
             fs::metadata(rt, path.as_str())
@@ -116,10 +118,9 @@ impl Pending {
         };
         let kind = match found {
             Err(cause) => return Ok(Some(Next::Failed(path, cause))),
-            Ok(found) => kind_of(&found),
+            Ok(found) => kind_of(found.is_dir(), found.is_file(), found.is_symlink()),
         };
-        let is_own = is_own_name(name_of(path.as_str()));
-        match action_of(kind, is_named, is_own, self.recursive) {
+        match action_of(kind, is_named, name_of(path.as_str()), self.recursive) {
             Action::Process => Ok(Some(Next::Named(path))),
             Action::ProcessPicture => Ok(Some(Next::Found(path))),
             Action::Enter => self.enter(rt, path),
@@ -133,9 +134,11 @@ impl Pending {
             }
             Action::SkipOwn => {
                 self.counts.skip_own();
-                if is_temporary_name(name_of(path.as_str())) {
-                    self.temporary.push(path)?;
-                }
+                Ok(None)
+            }
+            Action::SkipTemporary => {
+                self.counts.skip_own();
+                self.temporary.push(path)?;
                 Ok(None)
             }
             Action::Ignore => Ok(None),
@@ -159,36 +162,16 @@ impl Pending {
     }
 }
 
-fn kind_of(found: &Metadata) -> Kind {
-    if found.is_dir() {
-        Kind::Folder
-    } else if found.is_file() {
-        Kind::File
-    } else if found.is_symlink() {
-        Kind::Link
-    } else {
-        Kind::Other
-    }
-}
-
-/// The last part of a path.
-pub fn name_of(path: &str) -> &str {
-    match path.rsplit_once('/') {
-        Some((_, name)) => name,
-        None => path,
-    }
-}
-
 // The paths of what is in a folder, sorted. A name that is no UTF-8 is as `readable` writes it.
 fn names_in(rt: &HostRuntime, path: &str) -> io::Result<Vec<String>> {
     let alloc = rt.alloc();
     // a slash has the system follow a link
-    let slash = if path.ends_with('/') { "" } else { "/" };
+    let slash = slash_after(path);
     let folder = format!(in alloc; "{path}{slash}")?;
     let listing = listing_of(rt, folder.as_str())?;
     let mut names = Vec::new(alloc);
     for name in listing.split(|byte| *byte == 0) {
-        if !name.is_empty() && name != b".".as_slice() && name != b"..".as_slice() {
+        if is_inside(name) {
             let mut path = String::from_str(alloc, folder.as_str())?;
             path.push_str(readable(alloc, name)?.as_str())?;
             names.push(path)?;

@@ -2,11 +2,9 @@
 
 use exif::Sink;
 use exif_base::send_all;
+use exif_decisions::is_line_due;
 use std::io;
-use std::time::{Duration, Instant};
-
-// How many milliseconds pass before the line is written again.
-const PAUSE: u64 = 100;
+use std::time::Instant;
 
 /// How many files were done, in a line of a terminal that is written over.
 #[derive(Drop)]
@@ -46,10 +44,11 @@ impl Progress {
     // Whether the line is to be written again.
     fn is_due(&mut self, rt: &HostRuntime) -> io::Result<bool> {
         let now = Instant::now(rt)?;
-        let is_due = match self.written {
-            Some(last) => now.saturating_duration_since(last) >= Duration::from_millis(PAUSE),
-            None => true,
+        let since = match self.written {
+            Some(last) => Some(now.saturating_duration_since(last).as_millis()),
+            None => None,
         };
+        let is_due = is_line_due(since);
         if is_due {
             self.written = Some(now);
         }

@@ -13,7 +13,7 @@ use crate::pending::{Next, Pending};
 use crate::request::Request;
 use exif::Sink;
 use exif_base::send_all;
-use exif_decisions::{Found, Outcome, Summary};
+use exif_decisions::{Found, FoundStep, Outcome, Summary, fate_of};
 use exif_files::{Status, remove_abandoned};
 use std::alloc::{AllocError, AllocFailed};
 use std::fmt::Display;
@@ -156,21 +156,13 @@ impl<'r, 'a, W: Sink, E: Sink> Session<'r, 'a, W, E> {
                 break;
             };
             let path = path.as_str();
-            if !self.request.task.changes_files() {
-                self.say(
-                    path,
-                    &"a temporary file; a run that changes files removes it",
-                )?;
-                continue;
-            }
-            match remove_abandoned(self.rt, path) {
-                Ok(true) => {
-                    self.say(
-                        path,
-                        &"a temporary file of an interrupted run; it was removed",
-                    )?;
-                }
-                Ok(false) => self.say(path, &"a temporary file of another run; it stays")?,
+            let removed = if self.request.task.changes_files() {
+                remove_abandoned(self.rt, path).map(Some)
+            } else {
+                Ok(None)
+            };
+            match removed {
+                Ok(removed) => self.say(path, &fate_of(removed))?,
                 Err(cause) => {
                     let alloc = self.rt.alloc();
                     let what = format!(in alloc;
@@ -202,15 +194,17 @@ impl<'r, 'a, W: Sink, E: Sink> Session<'r, 'a, W, E> {
 
     // What is processed of a file that was found in a folder.
     fn chosen_in_folder(&mut self, path: String) -> Result<Option<Next>, Stop> {
-        match found_in_folder(self.rt, path.as_str(), self.request.task.use_of_files()) {
-            Found::Picture if is_chosen(self.rt, self.request, path.as_str())? => {
-                Ok(Some(Next::Found(path)))
+        let found = found_in_folder(self.rt, path.as_str(), self.request.task.use_of_files());
+        match found.step(self.request.task.moves_companions()) {
+            FoundStep::Choose => {
+                if is_chosen(self.rt, self.request, path.as_str())? {
+                    Ok(Some(Next::Found(path)))
+                } else {
+                    Ok(None)
+                }
             }
-            Found::Picture => Ok(None),
-            Found::NotRead(why) if self.request.task.moves_companions() => {
-                Ok(Some(Next::Beside(path, why)))
-            }
-            found => {
+            FoundStep::Beside(why) => Ok(Some(Next::Beside(path, why))),
+            FoundStep::Skip => {
                 self.skip(path.as_str(), found)?;
                 Ok(None)
             }
@@ -221,10 +215,8 @@ impl<'r, 'a, W: Sink, E: Sink> Session<'r, 'a, W, E> {
     /// a video or a document that is not read.
     pub fn skip(&mut self, path: &str, found: Found) -> Result<(), Stop> {
         self.pending.counts.skip(found);
-        if let Found::NotRead(why) = found {
-            if why.is_named() {
-                self.say(path, &why)?;
-            }
+        if let Some(why) = found.reported() {
+            self.say(path, &why)?;
         }
         Ok(())
     }

@@ -7,7 +7,7 @@ use crate::selection::{Wrong, reading_of, request, words_of};
 use crate::tags::tags_in;
 use clap::error::ErrorKind;
 use clap::{ArgMatches, Error};
-use exif_session::{Form, Paging, Request, Task};
+use exif_session::{Paging, Request, Task, form_by};
 use std::alloc::{AllocError, Global};
 
 /// What the arguments request.
@@ -114,13 +114,5 @@ fn check_of<'a>(
 ) -> Result<Result<Request<'a>, Wrong>, AllocError> {
     let files = words_of(alloc, matches)?;
     let strict = matches.get_flag("strict");
-    request(alloc, Task::Check(form_of(matches), strict), matches, files)
-}
-
-fn form_of(matches: &ArgMatches<'_>) -> Form {
-    if matches.get_flag("json") {
-        Form::Json
-    } else {
-        Form::Lines
-    }
+    request(alloc, Task::Check(form_by(matches.get_flag("json")), strict), matches, files)
 }

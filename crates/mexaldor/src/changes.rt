@@ -3,10 +3,12 @@
 use crate::selection::{Wrong, keeping_of, request, takes_many, words_of, wrong};
 use crate::tags::unknown_tag;
 use clap::ArgMatches;
-use exif_change::{Assignment, ClockShift, Dates};
+use exif_change::{Assignment, ClockShift};
 use exif_copy::{Selection, Shape};
 use exif_decisions::{Escaped, is_assignment};
-use exif_session::{Change, Copying, Request, ScrubOption, ScrubOptions, Target, Task};
+use exif_session::{
+    Change, Copying, Request, ScrubOption, ScrubOptions, Target, Task, dates_by,
+};
 use std::alloc::{AllocError, Global};
 
 /// Another name of `--locations-only`.
@@ -73,7 +75,7 @@ pub fn shift_of<'a>(
     let text = matches.get_str("by").unwrap_or("");
     match ClockShift::parse(text) {
         Some(by) => {
-            let change = Change::Shift(by, dates_of(matches));
+            let change = Change::Shift(by, dates_by(matches.get_flag("exif")));
             let task = Task::Change(change, Target::InPlace(keeping_of(matches)));
             let files = words_of(alloc, matches)?;
             request(alloc, task, matches, files)
@@ -130,13 +132,5 @@ fn changing<'a>(
             request(alloc, Task::Change(change, target), matches, files)
         }
         _ => wrong(alloc, "expected FILE OUT, or --in-place FILE..."),
-    }
-}
-
-fn dates_of(matches: &ArgMatches<'_>) -> Dates {
-    if matches.get_flag("exif") {
-        Dates::Exif
-    } else {
-        Dates::All
     }
 }

@@ -3,11 +3,12 @@
 use crate::selection::{Wrong, keeping_of, reading_of, request, takes_many, words_of, wrong};
 use crate::tags::tags_in;
 use clap::ArgMatches;
-use exif_columns::{self as columns, Separator};
 use exif_decisions::Escaped;
 use exif_geotag::{DEFAULT_GAP, exif_time_of, gap_in};
 use exif_rename::{DateTag, Pattern};
-use exif_session::{Cataloguing, Geotagging, Renaming, Request, Table, Task};
+use exif_session::{
+    Cataloguing, Geotagging, Renaming, Request, Table, Task, cells_by, date_tag_by, separator_by,
+};
 use std::alloc::{AllocError, Global};
 
 pub fn table_of<'a>(
@@ -21,28 +22,12 @@ pub fn table_of<'a>(
     let table = Table {
         reading: reading_of(matches, false),
         tags,
-        form: cells_of(matches),
-        separator: separator_of(matches),
+        form: cells_by(matches.get_flag("raw")),
+        separator: separator_by(matches.get_flag("tsv")),
         header: matches.get_flag("header"),
     };
     let files = words_of(alloc, matches)?;
     request(alloc, Task::Table(table), matches, files)
-}
-
-fn cells_of(matches: &ArgMatches<'_>) -> columns::Form {
-    if matches.get_flag("raw") {
-        columns::Form::Raw
-    } else {
-        columns::Form::Display
-    }
-}
-
-fn separator_of(matches: &ArgMatches<'_>) -> Separator {
-    if matches.get_flag("tsv") {
-        Separator::Tab
-    } else {
-        Separator::Comma
-    }
 }
 
 pub fn thumbnail_of<'a>(
@@ -100,13 +85,11 @@ fn date_tag_of(
     alloc: Global,
     matches: &ArgMatches<'_>,
 ) -> Result<Result<Option<DateTag>, Wrong>, AllocError> {
-    let Some(text) = matches.get_str("date") else {
-        return Ok(Ok(None));
-    };
-    match DateTag::named(text) {
-        Some(tag) => Ok(Ok(Some(tag))),
-        None => {
-            let text = Escaped(text);
+    let name = matches.get_str("date");
+    match date_tag_by(name) {
+        Ok(tag) => Ok(Ok(tag)),
+        Err(_unknown) => {
+            let text = Escaped(name.unwrap_or(""));
             Ok(Err(format!(in alloc;
                 "unknown date '{text}'; expected DateTimeOriginal, DateTimeDigitized (or CreateDate) or DateTime (or ModifyDate)"
             )?))
