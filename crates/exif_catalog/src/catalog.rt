@@ -111,7 +111,7 @@ fn read_rows<S: Alter>(
         let Some(row) = answer.next()? else {
             break;
         };
-        let path = text_at(row, 0)?;
+        let path = text_at(alloc, row, 0)?;
         let known = known_of(row, needs_hash)?;
         rows.insert(path, known)?;
     }

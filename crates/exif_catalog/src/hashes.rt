@@ -40,11 +40,11 @@ fn read_sides<S: Alter>(
         let Some(row) = answer.next()? else {
             break;
         };
-        let path = text_at(row, 0)?;
+        let path = text_at(alloc, row, 0)?;
         let Some(side) = side_of(rows, path.as_str(), roots) else {
             continue;
         };
-        let hash = text_at(row, 1)?;
+        let hash = text_at(alloc, row, 1)?;
         match side {
             Side::Gone => gone.push(Hashed { path, hash })?,
             Side::New => new.push(Hashed { path, hash })?,
