@@ -1,3 +1,6 @@
+pub mod Asking
 pub mod Encodings
 pub mod Moves
+pub mod Rowwise
+pub mod Tabs
 pub mod Types

@@ -42,3 +42,9 @@ is_read_error _ = false
 abbrev pub is_copy_error : CatalogError → Bool
 is_copy_error (error.Database (SqliteFailure code.DatabaseBusy)) = true
 is_copy_error e = is_names_error e
+
+-- why a database cannot be opened at all: what is beside it, or what its folder lets nobody do
+abbrev pub is_cause : CatalogError → Bool
+is_cause error.NotMade = true
+is_cause error.ReadOnly = true
+is_cause e = is_names_error e

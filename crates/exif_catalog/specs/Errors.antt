@@ -1,5 +1,5 @@
 -- Why a catalogue cannot be used: which failure becomes which error, and what is printed of one.
-use Rattle.std.specs.Prelude.{◌≡◌, IsTrue, ℕ, ℤ, pos, List, ◌++◌, Bool, Option, Some, None, if◌then◌else◌, codes, int_lt}
+use Rattle.std.specs.Prelude.{◌≡◌, IsTrue, ℕ, ℤ, pos, List, ◌++◌, Bool, true, false, Option, Some, None, if◌then◌else◌, codes, int_lt}
 use Rattle.std.specs.Fmt.{signed_decimal}
 use Rattle.std.specs.IoError.{error_kind}
 use Rattle.std.specs.declared.io.Error as io
@@ -11,6 +11,8 @@ use Rattle.sqlite.specs.declared.error.ErrorCode.TheVariants as code
 use Rattle.sqlite.specs.Opening.{is_open_error}
 use Rattle.exif_catalog.specs.declared.errors.CatalogError.{CatalogError}
 use Rattle.exif_catalog.specs.declared.errors.CatalogError.TheVariants as error
+use Rattle.exif_catalog.specs.declared.errors.RunError.{RunError}
+use Rattle.exif_catalog.specs.declared.errors.RunError.TheVariants as run
 
 -- a failure of the database; that it lacks memory is no failure of the database
 abbrev pub database_error : Error → CatalogError
@@ -54,3 +56,14 @@ error_text error.NoPath = Some (codes "a row without a path")
 error_text error.NotAQuery = Some (codes "expected a query that begins with SELECT")
 error_text (error.Database e) = None
 error_text error.OutOfMemory = Some (codes "out of memory")
+
+-- why a line is not handed on: its end needs memory, or who takes it ends the run
+abbrev pub is_hand_error : {E : Type 0} → RunError E → Bool
+is_hand_error (run.Caller why) = true
+is_hand_error (run.Catalog error.OutOfMemory) = true
+is_hand_error (run.Catalog _) = false
+
+-- the file of a database cannot be opened, or made
+abbrev pub is_closed : Error → Bool
+is_closed (SqliteFailure code.CannotOpen) = true
+is_closed _ = false

@@ -1,5 +1,5 @@
 -- What the statements of a catalogue do, and what their answers become.
-use Rattle.std.specs.Prelude.{◌≡◌, ◌⊎◌, ℕ, ℤ, pos, List, [], Option, Some, None, Result, Ok, Err, length, nat_lt, if◌then◌else◌, codes, String, string_bytes}
+use Rattle.std.specs.Prelude.{◌≡◌, ◌⊎◌, ℕ, ℤ, pos, negsuc, List, [], ◌∷◌, Bool, map, Option, Some, None, Result, Ok, Err, length, nat_lt, if◌then◌else◌, codes, String, string_bytes}
 use Rattle.std.specs.Ordering.{int_eq}
 use Rattle.std.specs.Global.{Global}
 use Rattle.std.specs.Str.{bytes_eq, is_utf8}
@@ -14,7 +14,12 @@ use Rattle.sqlite.specs.State.{Executes, QueriesRow}
 use Rattle.sqlite.specs.Values.{type_of}
 use Rattle.exif_summary.specs.Columns.{columns}
 use Rattle.exif_catalog.specs.Errors.{database_error}
+use Rattle.exif_catalog.specs.Known.{known_from, stamp_from}
 use Rattle.exif_catalog.specs.Schema.{create_text}
+use Rattle.exif_catalog.specs.declared.known.Known.{Known}
+use Rattle.exif_catalog.specs.declared.known.Stamp.{Stamp}
+use Rattle.exif_catalog.specs.declared.values.SqlValue.{SqlValue}
+use Rattle.exif_catalog.specs.declared.values.SqlValue.TheVariants as sql
 use Rattle.exif_catalog.specs.declared.errors.CatalogError.{CatalogError}
 use Rattle.exif_catalog.specs.declared.errors.CatalogError.TheVariants as error
 
@@ -30,6 +35,10 @@ write_version = codes "INSERT INTO catalog VALUES (2)"
 -- what reads it
 abbrev pub read_version : List ℕ
 read_version = codes "SELECT version FROM catalog"
+
+-- what marks a row as removed, or not
+abbrev pub mark_row : List ℕ
+mark_row = codes "UPDATE picture SET removed = ?2 WHERE path = ?1"
 
 -- what reads the text that made the table of pictures (SQLite, "The Schema Table", section 2)
 abbrev pub read_create : List ℕ
@@ -90,15 +99,73 @@ abbrev pub and_then : {A B : Type 0} → (A → Result B CatalogError) → Resul
 and_then next (Ok x) = next x
 and_then next (Err e) = Err e
 
+-- ---- what is known of a row: its path, the seven parts of its stamp, its mark, and whether it
+-- lacks a hash
+
+-- a number that is not negative
+abbrev pub amount_of : Option ℤ → Option ℕ
+amount_of (Some (pos n)) = Some n
+amount_of (Some (negsuc n)) = None
+amount_of None = None
+
+-- that of a column
+abbrev pub amount_at : Row → ℕ → Result (Option ℕ) CatalogError
+amount_at row at = and_then (λ n. Ok (amount_of n)) (number_at row at)
+
+-- the stamp
+abbrev pub stamp_at : Row → Result (Option Stamp) CatalogError
+stamp_at row =
+    and_then (λ size. and_then (λ modified. and_then (λ modified_ns. and_then (λ changed.
+    and_then (λ changed_ns. and_then (λ device. and_then (λ inode.
+    Ok (stamp_from (size ∷ modified ∷ modified_ns ∷ changed ∷ changed_ns ∷ device ∷ inode ∷ [])))
+    (amount_at row 7)) (amount_at row 6)) (amount_at row 5)) (amount_at row 4)) (amount_at row 3))
+    (amount_at row 2)) (amount_at row 1)
+
+-- all of it
+abbrev pub known_at : Row → Bool → Result Known CatalogError
+known_at row needs_hash =
+    and_then (λ stamp. and_then (λ removed. and_then (λ lacks_hash.
+    Ok (known_from stamp removed lacks_hash needs_hash))
+    (number_at row 9)) (number_at row 8)) (stamp_at row)
+
+-- ---- the parameters of a row
+
+-- a number with a fraction goes in as its text, and the SQL makes it a number (`insert_text`)
+abbrev pub parameter_value : SqlValue → Value
+parameter_value sql.Null = value.Null
+parameter_value (sql.Integer n) = value.Int n
+parameter_value (sql.Real t) = value.Text (string_bytes t)
+parameter_value (sql.Text t) = value.Text (string_bytes t)
+
+-- what marks a row: its path, and 1 or 0
+abbrev pub mark_parameters : List ℕ → Bool → Row
+mark_parameters path is_removed =
+    value.Text path ∷ value.Int (if is_removed then pos 1 else pos 0) ∷ []
+
+-- what takes a row away: its path
+abbrev pub path_parameter : List ℕ → Row
+path_parameter path = value.Text path ∷ []
+
 -- ---- statements
 
 module _ {S : Type 0} (g : Ghosts S) where
-  -- a text that is no query is run, with no parameters
+  -- a text that is no query is run, with these parameters
+  abbrev pub RunsWith : List ℕ → Row → Held S → Held S → Result (Unit {0}) CatalogError → Type 0
+  RunsWith sql params old new (Ok done) =
+      (count : ℕ) × Executes sql params (state g old) (state g new) (Ok count)
+  RunsWith sql params old new (Err e) = (why : Error)
+      × Executes sql params (state g old) (state g new) (Err why) × (e ≡ database_error why)
+
+  -- and with none
   abbrev pub Runs : List ℕ → Held S → Held S → Result (Unit {0}) CatalogError → Type 0
-  Runs sql old new (Ok done) =
-      (count : ℕ) × Executes sql [] (state g old) (state g new) (Ok count)
-  Runs sql old new (Err e) = (why : Error)
-      × Executes sql [] (state g old) (state g new) (Err why) × (e ≡ database_error why)
+  Runs sql = RunsWith sql []
+
+  -- a transaction is begun, and kept
+  abbrev pub Begins : Held S → Held S → Result (Unit {0}) CatalogError → Type 0
+  Begins = Runs (codes "BEGIN")
+
+  abbrev pub Commits : Held S → Held S → Result (Unit {0}) CatalogError → Type 0
+  Commits = Runs (codes "COMMIT")
 
   -- The first row of a query's answer decides, or the query fails.
   abbrev pub Asks : {A : Type 0} → List ℕ → (Row → Result A CatalogError → Type 0)
@@ -137,3 +204,17 @@ module _ {S : Type 0} (g : Ghosts S) where
   -- all tables are made
   abbrev pub MakesTables : Held S → Held S → Result (Unit {0}) CatalogError → Type 0
   MakesTables = Then (Runs create_version) MakesRest
+
+  -- A catalogue of this version is there: behind what found its tables, both were accepted.
+  abbrev pub IsAccepted : Held S → Type 0
+  IsAccepted new = (mid : Held S) × AsksCatalog mid new (Ok tt)
+
+  -- Or its tables were made.
+  abbrev pub IsPrepared : Held S → Type 0
+  IsPrepared new = (mid : Held S) × (AsksCatalog mid new (Ok tt) ⊎ MakesTables mid new (Ok tt))
+
+  -- A row is written, or there is no memory for its parameters, and nothing is done.
+  abbrev pub WritesRow : List ℕ → List SqlValue → Held S → Held S
+      → Result (Unit {0}) CatalogError → Type 0
+  WritesRow sql values old new result = RunsWith sql (map parameter_value values) old new result
+      ⊎ ((result ≡ Err error.OutOfMemory) × (new ≡ old))

@@ -5,7 +5,7 @@ ghost use Rattle.sqlite_value.specs.Order.{Row as SqlRow};
 ghost use Rattle.sqlite.specs.Held.{state};
 ghost use Rattle.sqlite.specs.State.{CommitsBy, HasCleanDisk, IsNotRun, IsUnchanged, Survives};
 ghost use Rattle.exif_catalog.specs.Errors.{database_error};
-ghost use Rattle.exif_catalog.specs.Statements.{Asks, AsksCatalog, AsksTable, AsksVersion, IsText, MakesRest, MakesTables, Runs, number_at, read_create, read_version, table_answer, text_at, version_answer};
+ghost use Rattle.exif_catalog.specs.Statements.{Asks, AsksCatalog, AsksTable, AsksVersion, Begins, Commits, IsAccepted, IsPrepared, IsText, MakesRest, MakesTables, Runs, number_at, read_create, read_version, table_answer, text_at, version_answer};
 
 use crate::errors::{CatalogError, RunError};
 use crate::schema::{
@@ -16,8 +16,8 @@ use sqlite::types::{Type, ValueRef};
 use sqlite::{Alter, Connection, Error, Row, Statement};
 use std::alloc::Global;
 
-/// Runs a statement that has no parameters.
-pub(crate) fn execute<S: Alter>(database: &mut Connection<S>, sql: &str) -> Result<(), CatalogError>
+// Runs a statement that has no parameters.
+fn execute<S: Alter>(database: &mut Connection<S>, sql: &str) -> Result<(), CatalogError>
     ensures runs { HasCleanDisk (state S.Store database.new)
         → Runs S.Store sql.now database.old database.new result }
     ensures survives { Survives (state S.Store database.old) (state S.Store database.new)
@@ -25,6 +25,22 @@ pub(crate) fn execute<S: Alter>(database: &mut Connection<S>, sql: &str) -> Resu
 {
     database.execute(sql, &[])?;
     Ok(())
+}
+
+/// Begins a transaction.
+pub(crate) fn begin<S: Alter>(database: &mut Connection<S>) -> Result<(), CatalogError>
+    ensures runs { HasCleanDisk (state S.Store database.new)
+        → Begins S.Store database.old database.new result }
+{
+    execute(database, "BEGIN")
+}
+
+/// Keeps what a transaction did.
+pub(crate) fn commit<S: Alter>(database: &mut Connection<S>) -> Result<(), CatalogError>
+    ensures runs { HasCleanDisk (state S.Store database.new)
+        → Commits S.Store database.old database.new result }
+{
+    execute(database, "COMMIT")
 }
 
 /// Compiles a statement.
@@ -199,7 +215,10 @@ fn find_tables<S: Alter>(
 pub(crate) fn prepare_tables<S: Alter>(
     alloc: Global,
     database: &mut Connection<S>,
-) -> Result<(), CatalogError> {
+) -> Result<(), CatalogError>
+    ensures prepared { HasCleanDisk (state S.Store database.new)
+        → OnOk result (IsPrepared S.Store database.new) }
+{
     match find_tables(alloc, database)? {
         Tables::None => create_tables(database),
         Tables::Catalog => check_version(alloc, database),
@@ -211,7 +230,10 @@ pub(crate) fn prepare_tables<S: Alter>(
 pub(crate) fn check_tables<S: Alter>(
     alloc: Global,
     database: &mut Connection<S>,
-) -> Result<(), CatalogError> {
+) -> Result<(), CatalogError>
+    ensures accepted { HasCleanDisk (state S.Store database.new)
+        → OnOk result (IsAccepted S.Store database.new) }
+{
     match find_tables(alloc, database)? {
         Tables::Catalog => check_version(alloc, database),
         Tables::None | Tables::Other => Err(CatalogError::OtherTables),
