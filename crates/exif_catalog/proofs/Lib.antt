@@ -1,5 +1,6 @@
 pub mod Asking
 pub mod Encodings
+pub mod Finding
 pub mod Moves
 pub mod Rowwise
 pub mod Tabs

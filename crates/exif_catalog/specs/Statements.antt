@@ -10,7 +10,7 @@ use Rattle.sqlite.specs.Store.{Ghosts}
 use Rattle.sqlite.specs.declared.error.Error.{Error}
 use Rattle.sqlite.specs.declared.error.Error.TheVariants.{InvalidColumnIndex, InvalidColumnType, Utf8Error}
 use Rattle.sqlite.specs.Held.{Held, state}
-use Rattle.sqlite.specs.State.{Executes, QueriesRow}
+use Rattle.sqlite.specs.State.{Executes, FailsToQuery, QueriesRow, Shown}
 use Rattle.sqlite.specs.Values.{type_of}
 use Rattle.exif_summary.specs.Columns.{columns}
 use Rattle.exif_catalog.specs.Errors.{database_error}
@@ -18,6 +18,9 @@ use Rattle.exif_catalog.specs.Known.{known_from, stamp_from}
 use Rattle.exif_catalog.specs.Schema.{create_text}
 use Rattle.exif_catalog.specs.declared.known.Known.{Known}
 use Rattle.exif_catalog.specs.declared.known.Stamp.{Stamp}
+use Rattle.exif_catalog.specs.Tables.{tables_of}
+use Rattle.exif_catalog.specs.declared.tables.Tables.{Tables}
+use Rattle.exif_catalog.specs.declared.tables.Tables.TheVariants as tables
 use Rattle.exif_catalog.specs.declared.values.SqlValue.{SqlValue}
 use Rattle.exif_catalog.specs.declared.values.SqlValue.TheVariants as sql
 use Rattle.exif_catalog.specs.declared.errors.CatalogError.{CatalogError}
@@ -40,11 +43,21 @@ read_version = codes "SELECT version FROM catalog"
 abbrev pub mark_row : List ℕ
 mark_row = codes "UPDATE picture SET removed = ?2 WHERE path = ?1"
 
+-- what names the tables that are there (the same page)
+abbrev pub read_tables : List ℕ
+read_tables = codes "SELECT name FROM sqlite_schema WHERE type = 'table'"
+
 -- what reads the text that made the table of pictures (SQLite, "The Schema Table", section 2)
 abbrev pub read_create : List ℕ
 read_create = codes "SELECT sql FROM sqlite_schema WHERE type = 'table' AND name = 'picture'"
 
 -- ---- the columns of an answer
+
+-- an answer that goes on from a cell
+abbrev pub and_then : {A B : Type 0} → (A → Result B CatalogError) → Result A CatalogError
+    → Result B CatalogError
+and_then next (Ok x) = next x
+and_then next (Err e) = Err e
 
 -- a column that there is not, or one of another type
 abbrev pub no_column : {A : Type 0} → ℕ → Result A CatalogError
@@ -77,6 +90,12 @@ text_in at (value.Blob b) = other_type at (value.Blob b)
 abbrev pub text_at : Row → ℕ → Result (List ℕ) CatalogError
 text_at row at = if nat_lt at (length row) then text_in at (column row at) else no_column at
 
+-- those in the first column of rows, or why one is none
+abbrev pub texts_at : List Row → Result (List (List ℕ)) CatalogError
+texts_at [] = Ok []
+texts_at (row ∷ rows) =
+    and_then (λ text. and_then (λ texts. Ok (text ∷ texts)) (texts_at rows)) (text_at row 0)
+
 -- a text that is read, or out of memory
 abbrev pub IsText : Row → Result (String Global) CatalogError → Type 0
 IsText row (Ok text) = text_at row 0 ≡ Ok (string_bytes text)
@@ -92,12 +111,6 @@ version_answer None = Err error.OtherTables
 -- the table of pictures was made by the text of this version
 abbrev pub table_answer : List ℕ → Result (Unit {0}) CatalogError
 table_answer text = if bytes_eq text (create_text columns) then Ok tt else Err error.OtherTables
-
--- an answer that goes on from a cell
-abbrev pub and_then : {A B : Type 0} → (A → Result B CatalogError) → Result A CatalogError
-    → Result B CatalogError
-and_then next (Ok x) = next x
-and_then next (Err e) = Err e
 
 -- ---- what is known of a row: its path, the seven parts of its stamp, its mark, and whether it
 -- lacks a hash
@@ -205,13 +218,35 @@ module _ {S : Type 0} (g : Ghosts S) where
   abbrev pub MakesTables : Held S → Held S → Result (Unit {0}) CatalogError → Type 0
   MakesTables = Then (Runs create_version) MakesRest
 
-  -- A catalogue of this version is there: behind what found its tables, both were accepted.
-  abbrev pub IsAccepted : Held S → Type 0
-  IsAccepted new = (mid : Held S) × AsksCatalog mid new (Ok tt)
+  -- which tables there are, by the names of all
+  abbrev pub FindsTables : Held S → Held S → Result Tables CatalogError → Type 0
+  FindsTables old new (Ok tables) = (rows : List Row) × (names : List (String Global))
+      × Shown read_tables [] (state g old) (state g new) rows
+      × (texts_at rows ≡ Ok (map string_bytes names)) × (tables ≡ tables_of names)
+  FindsTables old new (Err e) = ((why : Error) × (e ≡ database_error why)
+      × FailsToQuery read_tables [] (state g old) (state g new) why)
+      ⊎ ((rows : List Row) × Shown read_tables [] (state g old) (state g new) rows
+      × ((e ≡ error.OutOfMemory) ⊎ (texts_at rows ≡ Err e)))
 
-  -- Or its tables were made.
-  abbrev pub IsPrepared : Held S → Type 0
-  IsPrepared new = (mid : Held S) × (AsksCatalog mid new (Ok tt) ⊎ MakesTables mid new (Ok tt))
+  -- What reads a catalogue takes its own tables alone.
+  abbrev pub ChecksAs : Tables → Held S → Held S → Result (Unit {0}) CatalogError → Type 0
+  ChecksAs tables.None mid new result = (result ≡ Err error.OtherTables) × (new ≡ mid)
+  ChecksAs tables.Catalog mid new result = AsksCatalog mid new result
+  ChecksAs tables.Other mid new result = (result ≡ Err error.OtherTables) × (new ≡ mid)
+
+  -- A run over one also makes them where there are none.
+  abbrev pub PreparesAs : Tables → Held S → Held S → Result (Unit {0}) CatalogError → Type 0
+  PreparesAs tables.None mid new result = MakesTables mid new result
+  PreparesAs tables.Catalog mid new result = AsksCatalog mid new result
+  PreparesAs tables.Other mid new result = (result ≡ Err error.OtherTables) × (new ≡ mid)
+
+  -- what follows by the tables that are there, or they are not found
+  abbrev pub ByTables : (Tables → Held S → Held S → Result (Unit {0}) CatalogError → Type 0)
+      → Held S → Held S → Result (Unit {0}) CatalogError → Type 0
+  ByTables Follows old new result =
+      ((e : CatalogError) × FindsTables old new (Err e) × (result ≡ Err e))
+      ⊎ ((tables : Tables) × (mid : Held S) × FindsTables old mid (Ok tables)
+      × Follows tables mid new result)
 
   -- A row is written, or there is no memory for its parameters, and nothing is done.
   abbrev pub WritesRow : List ℕ → List SqlValue → Held S → Held S

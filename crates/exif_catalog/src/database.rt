@@ -1,11 +1,11 @@
 //! The database file of a catalogue.
 
-ghost use Rattle.std.specs.Prelude.{◌≡◌, ◌⊎◌, [], Ok, Err, string_bytes, IfErr, IfOk, OnOk};
+ghost use Rattle.std.specs.Prelude.{◌≡◌, ◌⊎◌, [], Ok, Err, string_bytes, IfErr, IfOk, OnOk, map};
 ghost use Rattle.sqlite_value.specs.Order.{Row as SqlRow};
 ghost use Rattle.sqlite.specs.Held.{state};
 ghost use Rattle.sqlite.specs.State.{CommitsBy, HasCleanDisk, IsNotRun, IsUnchanged, Survives};
 ghost use Rattle.exif_catalog.specs.Errors.{database_error};
-ghost use Rattle.exif_catalog.specs.Statements.{Asks, AsksCatalog, AsksTable, AsksVersion, Begins, Commits, IsAccepted, IsPrepared, IsText, MakesRest, MakesTables, Runs, number_at, read_create, read_version, table_answer, text_at, version_answer};
+ghost use Rattle.exif_catalog.specs.Statements.{Asks, AsksCatalog, AsksTable, AsksVersion, Begins, ByTables, ChecksAs, Commits, FindsTables, IsText, MakesRest, MakesTables, PreparesAs, Runs, number_at, read_create, read_version, table_answer, text_at, texts_at, version_answer};
 
 use crate::errors::{CatalogError, RunError};
 use crate::schema::{
@@ -86,20 +86,18 @@ pub(crate) fn number_at(row: &Row, column: usize) -> Result<Option<i64>, Catalog
     }
 }
 
-// The names of the tables that are there.
-fn read_tables<S: Alter>(
-    alloc: Global,
-    database: &mut Connection<S>,
-) -> Result<Vec<String>, CatalogError> {
-    let mut names = Vec::new(alloc);
-    let mut answer = database.query(READ_TABLES, &[])?;
-    for _ in 0..u64::MAX {
-        let Some(row) = answer.next()? else {
-            break;
-        };
-        names.push(text_at(alloc, row, 0)?)?;
+// The texts in the first column of rows.
+fn texts_of(alloc: Global, rows: &[Row]) -> Result<Vec<String>, CatalogError>
+    ensures texts { IfOk result (λ texts. texts_at rows.now ≡ Ok (map string_bytes texts.items)) }
+    ensures refused { IfErr result (λ e. (e ≡ CatalogError.OutOfMemory)
+        ⊎ (texts_at rows.now ≡ Err e)) }
+{
+    let mut texts = Vec::new(alloc);
+    for row in rows {
+        let text = text_at(alloc, row, 0)?;
+        texts.push(text)?;
     }
-    Ok(names)
+    Ok(texts)
 }
 
 // The version of the tables.
@@ -206,8 +204,14 @@ fn create_rest<S: Alter>(database: &mut Connection<S>) -> Result<(), CatalogErro
 fn find_tables<S: Alter>(
     alloc: Global,
     database: &mut Connection<S>,
-) -> Result<Tables, CatalogError> {
-    let names = read_tables(alloc, database)?;
+) -> Result<Tables, CatalogError>
+    ensures finds { HasCleanDisk (state S.Store database.new)
+        → FindsTables S.Store database.old database.new result }
+    ensures clean { HasCleanDisk (state S.Store database.new)
+        → HasCleanDisk (state S.Store database.old) }
+{
+    let rows = database.query_all(READ_TABLES, &[])?;
+    let names = texts_of(alloc, rows.as_slice())?;
     Ok(tables_of(names.as_slice()))
 }
 
@@ -216,8 +220,8 @@ pub(crate) fn prepare_tables<S: Alter>(
     alloc: Global,
     database: &mut Connection<S>,
 ) -> Result<(), CatalogError>
-    ensures prepared { HasCleanDisk (state S.Store database.new)
-        → OnOk result (IsPrepared S.Store database.new) }
+    ensures prepares { HasCleanDisk (state S.Store database.new) → ByTables S.Store
+        (PreparesAs S.Store) database.old database.new result }
 {
     match find_tables(alloc, database)? {
         Tables::None => create_tables(database),
@@ -231,8 +235,8 @@ pub(crate) fn check_tables<S: Alter>(
     alloc: Global,
     database: &mut Connection<S>,
 ) -> Result<(), CatalogError>
-    ensures accepted { HasCleanDisk (state S.Store database.new)
-        → OnOk result (IsAccepted S.Store database.new) }
+    ensures checks { HasCleanDisk (state S.Store database.new) → ByTables S.Store
+        (ChecksAs S.Store) database.old database.new result }
 {
     match find_tables(alloc, database)? {
         Tables::Catalog => check_version(alloc, database),
