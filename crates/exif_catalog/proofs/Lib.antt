@@ -1,4 +1,3 @@
-pub mod Asking
 pub mod Encodings
 pub mod Finding
 pub mod Moves

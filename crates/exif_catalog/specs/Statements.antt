@@ -1,6 +1,7 @@
 -- What the statements of a catalogue do, and what their answers become.
 use Rattle.std.specs.Prelude.{◌≡◌, ◌⊎◌, ℕ, ℤ, pos, negsuc, List, [], ◌∷◌, Bool, map, Option, Some, None, Result, Ok, Err, length, nat_lt, if◌then◌else◌, codes, String, string_bytes}
 use Rattle.std.specs.Ordering.{int_eq}
+use Rattle.std.specs.Borrow.{Bor}
 use Rattle.std.specs.Global.{Global}
 use Rattle.std.specs.Str.{bytes_eq, is_utf8}
 use Rattle.sqlite_value.specs.Order.{Row, column}
@@ -14,10 +15,12 @@ use Rattle.sqlite.specs.State.{Executes, FailsToQuery, QueriesRow, Shown}
 use Rattle.sqlite.specs.Values.{type_of}
 use Rattle.exif_summary.specs.Columns.{columns}
 use Rattle.exif_catalog.specs.Errors.{database_error}
-use Rattle.exif_catalog.specs.Known.{known_from, stamp_from}
+use Rattle.exif_catalog.specs.Known.{known_from, side_of, stamp_from}
 use Rattle.exif_catalog.specs.Schema.{create_text}
 use Rattle.exif_catalog.specs.declared.known.Known.{Known}
+use Rattle.exif_catalog.specs.declared.known.Side.{Side}
 use Rattle.exif_catalog.specs.declared.known.Stamp.{Stamp}
+use Rattle.exif_catalog.specs.declared.moving.Hashed.{Hashed}
 use Rattle.exif_catalog.specs.Tables.{tables_of}
 use Rattle.exif_catalog.specs.declared.tables.Tables.{Tables}
 use Rattle.exif_catalog.specs.declared.tables.Tables.TheVariants as tables
@@ -140,6 +143,30 @@ known_at row needs_hash =
     and_then (λ stamp. and_then (λ removed. and_then (λ lacks_hash.
     Ok (known_from stamp removed lacks_hash needs_hash))
     (number_at row 9)) (number_at row 8)) (stamp_at row)
+
+-- its path, and all of it
+abbrev pub entry_at : Row → Bool → Result (List ℕ × Known) CatalogError
+entry_at row needs_hash =
+    and_then (λ path. and_then (λ known. Ok (path, known)) (known_at row needs_hash)) (text_at row 0)
+
+-- ---- the hashes of rows
+
+-- what a row's picture may be of a move, with its path and its hash, if it may be something
+abbrev pub hashed_as : Option Side → List ℕ → Row
+    → Result (Option (Side × List ℕ × List ℕ)) CatalogError
+hashed_as None path row = Ok None
+hashed_as (Some side) path row =
+    and_then (λ hash. Ok (Some (side, path, hash))) (text_at row 1)
+
+-- the same by what was known of it
+abbrev pub hashed_at : (List ℕ → Option Known) → List (Bor (List ℕ)) → Row
+    → Result (Option (Side × List ℕ × List ℕ)) CatalogError
+hashed_at known roots row =
+    and_then (λ path. hashed_as (side_of (known path) path roots) path row) (text_at row 0)
+
+-- its parts
+abbrev pub parts_of : Side × Hashed → Side × List ℕ × List ℕ
+parts_of it = (it.0, string_bytes it.1.path, string_bytes it.1.hash)
 
 -- ---- the parameters of a row
 

@@ -1,6 +1,6 @@
 //! A run over a catalogue: rows that follow the pictures of a run.
 
-ghost use Rattle.std.specs.Prelude.{◌≡◌, ℕ, List, IfOk, Err, Ok, OnErr, OnOk, Some, false, is_some, map, true};
+ghost use Rattle.std.specs.Prelude.{◌≡◌, ◌⊎◌, ℕ, List, IfErr, IfOk, Err, Ok, OnErr, OnOk, Some, false, is_some, map, string_bytes, true};
 ghost use Rattle.std.specs.BTreeMap.{get_by_text};
 ghost use Rattle.exif_catalog.specs.Totals.{outcome_of};
 ghost use Rattle.exif_catalog.specs.Parameters.{bound, parameter_of};
@@ -12,7 +12,7 @@ ghost use Rattle.sqlite.specs.Values.{bound as bound_row, bound_value};
 ghost use Rattle.sqlite_value.specs.Value.{owned};
 ghost use Rattle.exif_summary.specs.Columns.{columns};
 ghost use Rattle.exif_catalog.specs.Schema.{insert_text};
-ghost use Rattle.exif_catalog.specs.Statements.{RunsWith, WritesRow, amount_at, known_at as known_in, mark_parameters, mark_row, parameter_value, path_parameter, stamp_at};
+ghost use Rattle.exif_catalog.specs.Statements.{RunsWith, WritesRow, amount_at, entry_at, known_at as known_in, mark_parameters, mark_row, parameter_value, path_parameter, stamp_at};
 ghost use Rattle.exif_catalog.specs.Runs.{forgotten, has_path, has_stamp_of, known_after, known_at, marks_in};
 
 use crate::database::{number_at, prepare, prepare_tables, text_at};
@@ -113,6 +113,18 @@ fn known_of(row: &Row, needs_hash: bool) -> Result<Known, CatalogError>
     Ok(known_from(stamp, removed, lacks_hash, needs_hash))
 }
 
+// The path of a row, and what is known of its picture.
+fn entry_of(alloc: Global, row: &Row, needs_hash: bool) -> Result<(String, Known), CatalogError>
+    ensures entry { IfOk result (λ it. entry_at row.now needs_hash
+        ≡ Ok (string_bytes it.0, it.1)) }
+    ensures refused { IfErr result (λ e. (e ≡ CatalogError.OutOfMemory)
+        ⊎ (entry_at row.now needs_hash ≡ Err e)) }
+{
+    let path = text_at(alloc, row, 0)?;
+    let known = known_of(row, needs_hash)?;
+    Ok((path, known))
+}
+
 // What is known of all pictures.
 fn read_rows<S: Alter>(
     alloc: Global,
@@ -125,8 +137,7 @@ fn read_rows<S: Alter>(
         let Some(row) = answer.next()? else {
             break;
         };
-        let path = text_at(alloc, row, 0)?;
-        let known = known_of(row, needs_hash)?;
+        let (path, known) = entry_of(alloc, row, needs_hash)?;
         rows.insert(path, known)?;
     }
     Ok(rows)

@@ -1,4 +1,4 @@
-use Rattle.std.proofs.Common.{◌≡◌, ◌∙◌, ◌<◌, arith, get_or, length, rules}
+use Rattle.std.proofs.Common.{◌<◌, arith, length}
 use Rattle.exif_catalog.proofs.Tabs.{line_more}
 use Rattle.exif_catalog.proofs.answers.push_names.Goals as goal
 

@@ -1,7 +1,4 @@
-use Rattle.std.proofs.Common.{inl, inr, rules, arith}
-use Rattle.sqlite.specs.Held.{state}
-use Rattle.sqlite.specs.State.{HasCleanDisk}
-use Rattle.exif_catalog.specs.Statements.{AsksTable, AsksVersion, MakesRest, Runs, create_version, write_version}
+use Rattle.std.proofs.Common.{inl, inr, rules}
 use Rattle.exif_catalog.proofs.database.check_version.Goals as goal
 
 pub returns-in_err-check_number-clause-asks : goal.returns-in_err-check_number-clause-asks

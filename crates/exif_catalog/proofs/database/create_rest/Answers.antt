@@ -1,7 +1,6 @@
-use Rattle.std.proofs.Common.{inl, inr, rules, arith}
+use Rattle.std.proofs.Common.{inr, arith}
 use Rattle.sqlite.specs.Held.{state}
 use Rattle.sqlite.specs.State.{HasCleanDisk}
-use Rattle.exif_catalog.specs.Statements.{AsksTable, AsksVersion, MakesRest, Runs, create_version, write_version}
 use Rattle.exif_catalog.proofs.database.create_rest.Goals as goal
 
 pub returns-clause-makes : goal.returns-clause-makes

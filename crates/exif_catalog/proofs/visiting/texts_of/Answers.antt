@@ -1,4 +1,4 @@
-use Rattle.std.proofs.Common.{◌≡◌, ◌∙◌, ◌<◌, ◌++◌, ◌∷◌, [], List, ℕ, Option, ap, sym, subst, arith, length, take, ◌+◌}
+use Rattle.std.proofs.Common.{◌∙◌, ◌<◌, ◌∷◌, [], ap, sym, subst, arith, length, take, ◌+◌}
 use Rattle.std.proofs.lemmas.List.{map-append}
 use Rattle.std.specs.Prelude.{map, option_map, string_bytes}
 use Rattle.exif_catalog.specs.Shown.{AllOf, IsShown}
