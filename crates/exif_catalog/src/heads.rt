@@ -1,6 +1,7 @@
 //! What is at a path, before it is opened as a database.
 
 ghost use Rattle.std.specs.Prelude.{◌≡◌, ◌≢◌, None, Some, IfErr, IfOk, IsTrue};
+ghost use Rattle.std.specs.Fs.{IsFile, file_type};
 ghost use Rattle.std.specs.IoError.{error_kind};
 ghost use Rattle.exif_catalog.specs.Heads.{existing_answer, is_existing_error, is_kind_error, is_new_error, kind_of, new_answer};
 
@@ -59,19 +60,30 @@ fn read_head(rt: &HostRuntime, path: &str) -> io::Result<Vec<u8>> {
     Ok(head)
 }
 
+// Refuses a folder and a device.
+fn accept_file(found: &Metadata) -> Result<(), CatalogError>
+    ensures file { IsFile (file_type found.now) → result ≡ Ok tt }
+    ensures other { IfOk result (λ _. IsFile (file_type found.now)) }
+    ensures refused { IfErr result (λ e. e ≡ CatalogError.NotAFile) }
+{
+    if found.is_file() {
+        Ok(())
+    } else {
+        Err(CatalogError::NotAFile)
+    }
+}
+
 // What is at a path. Nothing is changed there. A folder, a device, and what cannot be read are
 // refused.
 fn find_kind(rt: &HostRuntime, path: &str) -> Result<FileKind, CatalogError>
     ensures named { IfErr result (λ e. IsTrue (is_kind_error e)) }
 {
-    match if_found(fs::metadata(rt, path))? {
-        None => Ok(FileKind::Absent),
-        Some(found) if found.is_file() => {
-            let head = read_head(rt, path)?;
-            Ok(kind_of(head.as_slice()))
-        }
-        Some(_) => Err(CatalogError::NotAFile),
-    }
+    let Some(found) = if_found(fs::metadata(rt, path))? else {
+        return Ok(FileKind::Absent);
+    };
+    accept_file(&found)?;
+    let head = read_head(rt, path)?;
+    Ok(kind_of(head.as_slice()))
 }
 
 // Refuses a file that is not empty and no database.
