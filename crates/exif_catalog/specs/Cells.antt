@@ -1,7 +1,7 @@
 -- The text of an answer, and what a query is.
-use Rattle.std.specs.Prelude.{ℕ, List, [], ◌∷◌, Bool, true, false, ◌==◌, ◌&&◌, ◌||◌, not, nat_le, if◌then◌else◌, codes}
+use Rattle.std.specs.Prelude.{ℕ, List, [], ◌∷◌, Bool, true, false, ◌==◌, ◌&&◌, ◌||◌, not, nat_le, if◌then◌else◌, codes, map}
 use Rattle.std.specs.Char.{eq_ignore_ascii_case, is_ascii_alphanumeric}
-use Rattle.std.specs.List.{flat_map}
+use Rattle.std.specs.List.{flat_map, join_with_byte}
 use Rattle.std.specs.Str.{trim_start}
 
 -- a byte that goes on with a word of SQL: a letter, a digit, `_` (95), or a byte of a character
@@ -29,6 +29,14 @@ tsv_byte byte =
     if byte == 9 then codes "\\t" else (if byte == 10 then codes "\\n"
     else (if byte == 13 then codes "\\r" else (if byte == 92 then codes "\\\\" else byte ∷ [])))
 
+-- what is before a value of a line: a tab, but for the first
+abbrev pub gap_before : ℕ → List ℕ
+gap_before at = if at == 0 then [] else 9 ∷ []
+
 -- a value between tabs
 abbrev pub tsv_field : List ℕ → List ℕ
 tsv_field bytes = flat_map tsv_byte bytes
+
+-- names as a line, without its end: with tabs between them
+abbrev pub names_line : List (List ℕ) → List ℕ
+names_line names = join_with_byte 9 (map tsv_field names)

@@ -1,16 +1,25 @@
 -- Worked examples of the definitions.
-use Rattle.std.specs.Prelude.{◌≡◌, [], ◌∷◌, ◌++◌, pos, codes, Some, None, true, false, refl}
+use Rattle.std.specs.Prelude.{◌≡◌, [], ◌∷◌, ◌++◌, pos, negsuc, codes, Some, None, Ok, Err, true, false, refl}
 use Rattle.std.specs.Char.{encode_utf8}
-use Rattle.exif_catalog.specs.Cells.{begins_word, tsv_field}
-use Rattle.exif_catalog.specs.Heads.{kind_of}
+use Rattle.std.specs.Fmt.{digits}
+use Rattle.std.specs.Str.{chars, is_utf8}
+use Rattle.sqlite.specs.declared.error.Error.TheVariants.{InvalidColumnIndex, InvalidColumnType}
+use Rattle.sqlite.specs.declared.types.Type.TheVariants as sql_type
+use Rattle.sqlite_value.specs.declared.value.Value.TheVariants as value
+use Rattle.exif_catalog.specs.Cells.{begins_word, names_line, tsv_field}
+use Rattle.exif_catalog.specs.Copies.{log_path}
+use Rattle.exif_catalog.specs.Errors.{error_text}
+use Rattle.exif_catalog.specs.Heads.{existing_answer, kind_of, new_answer}
 use Rattle.exif_catalog.specs.Known.{is_below, mark_for, side_of}
 use Rattle.exif_catalog.specs.Moves.{move_by, nobody, one, several}
 use Rattle.exif_catalog.specs.Runs.{has_path, has_stamp_of}
+use Rattle.exif_catalog.specs.Statements.{amount_at, mark_parameters, number_at, table_answer, texts_at, version_answer}
 use Rattle.exif_catalog.specs.Tables.{tables_for}
 use Rattle.exif_catalog.specs.Values.{amount_value, integer, latin1, null}
 use Rattle.exif_catalog.specs.Totals.{more, outcome_of}
 use Rattle.exif_catalog.specs.declared.known.Side.TheVariants as side
 use Rattle.exif_catalog.specs.declared.known.Stamp.{Stamp}
+use Rattle.exif_catalog.specs.declared.errors.CatalogError.TheVariants as error
 use Rattle.exif_catalog.specs.declared.heads.FileKind.TheVariants as kind
 use Rattle.exif_catalog.specs.declared.totals.Outcome.TheVariants as outcome
 use Rattle.exif_catalog.specs.declared.tables.Tables.TheVariants as tables
@@ -163,3 +172,55 @@ old_row = refl
 
 greatest_count : more 18446744073709551615 ≡ 18446744073709551615
 greatest_count = refl
+
+-- an empty file is made a catalogue by a run, and is none to what reads
+new_empty : new_answer kind.Empty ≡ Ok tt
+new_empty = refl
+
+read_empty : existing_answer kind.Empty ≡ Err error.OtherTables
+read_empty = refl
+
+-- sqlite3 keeps the log of `a.db` in `a.db-wal`
+log_of_a : log_path (codes "a.db") ≡ codes "a.db-wal"
+log_of_a = refl
+
+-- catalogues of an older and of a newer version
+older : version_answer (Some (pos 1)) ≡ Err (error.OtherVersion (pos 1))
+older = refl
+
+this_version : version_answer (Some (pos 2)) ≡ Ok tt
+this_version = refl
+
+newer_text : error_text (error.OtherVersion (pos 3))
+    ≡ Some (codes "a catalogue of version 3, by a newer program; this one reads version 2")
+unfolding digits
+newer_text = refl
+
+-- a table that another program made
+other_table : table_answer (codes "CREATE TABLE picture (path TEXT)") ≡ Err error.OtherTables
+other_table = refl
+
+-- rows of an answer: a text, a number where a text has to be, and a column that there is not
+one_text : texts_at ((value.Text (codes "picture") ∷ []) ∷ []) ≡ Ok (codes "picture" ∷ [])
+unfolding is_utf8 chars encode_utf8
+one_text = refl
+
+no_text : texts_at ((value.Int (pos 7) ∷ []) ∷ [])
+    ≡ Err (error.Database (InvalidColumnType 0 sql_type.Integer))
+no_text = refl
+
+no_number : number_at (value.Null ∷ []) 1 ≡ Err (error.Database (InvalidColumnIndex 1))
+no_number = refl
+
+-- a number that is negative is no amount
+negative : amount_at (value.Int (negsuc 0) ∷ []) 0 ≡ Ok None
+negative = refl
+
+-- two names of columns
+two_names : names_line (codes "path" ∷ codes "make" ∷ []) ≡ codes "path\tmake"
+two_names = refl
+
+-- what marks a row as removed
+removed_row : mark_parameters (codes "a.jpg") true
+    ≡ value.Text (codes "a.jpg") ∷ value.Int (pos 1) ∷ []
+removed_row = refl

@@ -1,7 +1,10 @@
+pub mod Errors
 pub mod Values
 pub mod Parameters
 pub mod Schema
+pub mod Statements
 pub mod Heads
+pub mod Copies
 pub mod Known
 pub mod Moves
 pub mod Tables

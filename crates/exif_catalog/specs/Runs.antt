@@ -6,8 +6,9 @@ use Rattle.std.specs.Global.{Global}
 use Rattle.std.specs.Str.{bytes_eq}
 use Rattle.std.specs.String.{string_bytes}
 use Rattle.exif_catalog.specs.Known.{has_stamp, mark_of, seen}
-use Rattle.exif_catalog.specs.Totals.{marked}
+use Rattle.exif_catalog.specs.Totals.{marked, moved}
 use Rattle.exif_catalog.specs.declared.catalog.Catalog.{Catalog}
+use Rattle.exif_catalog.specs.declared.hashes.Move.{Move}
 use Rattle.exif_catalog.specs.declared.known.Known.{Known}
 use Rattle.exif_catalog.specs.declared.known.Stamp.{Stamp}
 use Rattle.exif_catalog.specs.declared.totals.Totals.{Totals}
@@ -54,3 +55,14 @@ abbrev pub marks_in : List (Bor (List ℕ)) → Totals → List (String Global �
 marks_in roots totals [] = totals
 marks_in roots totals (row ∷ rows) =
     marks_in roots (marked_if totals (mark_of (string_bytes row.0) row.1 roots)) rows
+
+-- what is counted of files that were moved
+abbrev pub moved_times : Totals → List Move → Totals
+moved_times totals [] = totals
+moved_times totals (move ∷ moves) = moved_times (moved totals) moves
+
+-- what is known of a path once files were moved: nothing of an old path
+abbrev pub forgotten : List Move → Option Known → List ℕ → Option Known
+forgotten [] known q = known
+forgotten (move ∷ moves) known q =
+    forgotten moves (if bytes_eq (string_bytes move.old) q then None else known) q

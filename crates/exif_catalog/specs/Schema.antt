@@ -78,6 +78,12 @@ insert_text columns =
 abbrev pub answer_column : Column → List ℕ
 answer_column column = codes ", " ++ name_of column
 
+-- the columns that are shown of a picture, behind its path
+abbrev pub shown_columns : List Column
+shown_columns = column.Taken ∷ column.Make ∷ column.Model ∷ column.Exposure ∷ column.FNumber
+    ∷ column.Sensitivity ∷ column.FocalLength ∷ column.Latitude ∷ column.Longitude
+    ∷ column.Orientation ∷ []
+
 -- what reads the path and columns of the pictures that are there, in order
 abbrev pub pictures_text : List Column → List ℕ
 pictures_text columns =

@@ -1,10 +1,14 @@
 -- The texts of values that SQLite answers.
-use Rattle.std.specs.Prelude.{◌≡◌, ℕ, List, [], ◌∷◌, ◌++◌, Option, Some, None, IsSome, map, option_and_then, option_map, slice_get, unwrap_or}
+use Rattle.std.specs.Prelude.{◌≡◌, ℕ, List, [], ◌∷◌, ◌++◌, Option, Some, None, IsSome, map, option_and_then, option_map, slice_get, unwrap_or, ⊤}
 use Rattle.std.specs.String.{string_bytes}
 use Rattle.std.specs.Fmt.{signed_decimal}
+use Rattle.std.specs.List.{join_with_byte}
+use Rattle.sqlite_value.specs.Order.{Row, column}
+use Rattle.sqlite_value.specs.declared.value.Value.{Value}
+use Rattle.sqlite_value.specs.declared.value.Value.TheVariants as value
 use Rattle.sqlite_value.specs.declared.value.ValueRef.{ValueRef}
 use Rattle.sqlite_value.specs.declared.value.ValueRef.TheVariants as ref
-use Rattle.exif_catalog.specs.Cells.{tsv_field}
+use Rattle.exif_catalog.specs.Cells.{gap_before, tsv_field}
 use Rattle.exif_catalog.specs.Values.{text_of}
 use Rattle.exif_catalog.specs.declared.visiting.PictureRow.{PictureRow}
 use Rattle.exif_catalog.specs.declared.visiting.Texts.{Texts}
@@ -26,6 +30,39 @@ Adds (ref.Int n) old new = new ≡ old ++ tsv_field (signed_decimal n)
 Adds (ref.Real x) old new = (digits : List ℕ) × (new ≡ old ++ tsv_field digits)
 Adds (ref.Text t) old new = new ≡ old ++ tsv_field t.now
 Adds (ref.Blob b) old new = new ≡ old ++ tsv_field b.now
+
+-- the same of a value that a row has
+abbrev pub IsShown : Value → Option (List ℕ) → Type 0
+IsShown value.Null text = text ≡ None
+IsShown (value.Int n) text = text ≡ Some (signed_decimal n)
+IsShown (value.Real x) text = IsSome text
+IsShown (value.Text t) text = text ≡ Some (text_of t)
+IsShown (value.Blob b) text = text ≡ Some (text_of b)
+
+-- and what it adds to a line
+abbrev pub IsField : Value → List ℕ → Type 0
+IsField value.Null field = field ≡ []
+IsField (value.Int n) field = field ≡ tsv_field (signed_decimal n)
+IsField (value.Real x) field = (digits : List ℕ) × (field ≡ tsv_field digits)
+IsField (value.Text t) field = field ≡ tsv_field t
+IsField (value.Blob b) field = field ≡ tsv_field b
+
+-- as many items as a row has values, each of them that of the value at its place
+abbrev pub AllOf : {A : Type 0} → (Value → A → Type 0) → Row → List A → Type 0
+AllOf Is [] [] = ⊤
+AllOf Is (v ∷ vs) (x ∷ xs) = Is v x × AllOf Is vs xs
+AllOf Is [] (x ∷ xs) = ⊥
+AllOf Is (v ∷ vs) [] = ⊥
+
+-- a cell of a line, with the tab before it
+abbrev pub AddsCell : Row → ℕ → List ℕ → List ℕ → Type 0
+AddsCell row at old new = (field : List ℕ) × IsField (column row at) field
+    × (new ≡ (old ++ gap_before at) ++ field)
+
+-- a row as a line, without its end: its values with tabs between them
+abbrev pub AddsRow : Row → List ℕ → List ℕ → Type 0
+AddsRow row old new = (fields : List (List ℕ)) × AllOf IsField row fields
+    × (new ≡ old ++ join_with_byte 9 fields)
 
 -- the text of a column of an answer's row, if there is one
 abbrev pub text_at : Texts → ℕ → Option (List ℕ)

@@ -1,12 +1,16 @@
 //! Answers of a database as text.
 
-ghost use Rattle.std.specs.Prelude.{◌≡◌, ◌++◌, [], OnOk, codes};
+ghost use Rattle.std.specs.Prelude.{◌≡◌, ◌<◌, ◌++◌, [], Err, IfErr, IsTrue, OnOk, codes, false, length};
+ghost use Rattle.exif_catalog.specs.Cells.{is_query, names_line};
+ghost use Rattle.exif_catalog.specs.Errors.{is_hand_error};
+ghost use Rattle.exif_catalog.specs.Shown.{AddsCell, AddsRow};
 
-use crate::cells::{is_query, push_text, push_value};
+use crate::cells::{is_query, push_gap, push_text, push_value};
 use crate::database::{Job, prepare};
 use crate::errors::{CatalogError, RunError};
 use crate::heads::check_existing;
 use crate::opening::run_reading;
+use sqlite::types::Bytes;
 use sqlite::{Alter, Connection, Row, Statement};
 use std::alloc::{AllocError, Global};
 
@@ -28,7 +32,8 @@ fn end_line(line: &mut Vec<u8>) -> Result<(), AllocError>
 
 // Hands a line on, and empties it.
 fn hand_on<L: Lines>(lines: &mut L, line: &mut Vec<u8>) -> Result<(), RunError<L::Error>>
-    ensures { OnOk result (line.new.items ≡ []) }
+    ensures empty { OnOk result (line.new.items ≡ []) }
+    ensures named { IfErr result (λ e. IsTrue (is_hand_error e)) }
 {
     end_line(line)?;
     lines.take(line.as_slice()).map_err(RunError::Caller)?;
@@ -37,23 +42,38 @@ fn hand_on<L: Lines>(lines: &mut L, line: &mut Vec<u8>) -> Result<(), RunError<L
 }
 
 // Adds the names of the columns.
-fn push_names(line: &mut Vec<u8>, statement: &Statement) -> Result<(), AllocError> {
-    for (i, name) in statement.column_names().iter().enumerate() {
-        if i > 0 {
-            line.push(b'\t')?;
-        }
-        push_text(line, name.as_slice())?;
+fn push_names(line: &mut Vec<u8>, names: &[Bytes]) -> Result<(), AllocError>
+    ensures { OnOk result (line.new.items ≡ line.old.items ++ names_line names.now) }
+{
+    for i in 0..names.len() {
+        push_gap(line, i)?;
+        push_text(line, names[i].as_slice())?;
     }
     Ok(())
 }
 
+// Adds a value of a row.
+fn push_cell(
+    alloc: Global,
+    line: &mut Vec<u8>,
+    row: &Row,
+    column: usize,
+) -> Result<(), CatalogError>
+    ensures cell { OnOk result (AddsCell row.now column line.old.items line.new.items) }
+    ensures memory { column < length row.now → IfErr result (λ e. e ≡ CatalogError.OutOfMemory) }
+{
+    push_gap(line, column)?;
+    push_value(alloc, line, row.get_ref(column)?)?;
+    Ok(())
+}
+
 // Adds the values of a row.
-fn push_row(alloc: Global, line: &mut Vec<u8>, row: &Row) -> Result<(), CatalogError> {
+fn push_row(alloc: Global, line: &mut Vec<u8>, row: &Row) -> Result<(), CatalogError>
+    ensures row { OnOk result (AddsRow row.now line.old.items line.new.items) }
+    ensures memory { IfErr result (λ e. e ≡ CatalogError.OutOfMemory) }
+{
     for i in 0..row.column_count() {
-        if i > 0 {
-            line.push(b'\t')?;
-        }
-        push_value(alloc, line, row.get_ref(i)?)?;
+        push_cell(alloc, line, row, i)?;
     }
     Ok(())
 }
@@ -88,7 +108,7 @@ fn answer<S: Alter, L: Lines>(
 ) -> Result<u64, RunError<L::Error>> {
     let statement = prepare(database, sql)?;
     let mut line = Vec::new(alloc);
-    push_names(&mut line, &statement)?;
+    push_names(&mut line, statement.column_names())?;
     hand_on(lines, &mut line)?;
     answer_rows(alloc, database, &statement, lines)
 }
@@ -125,7 +145,11 @@ pub fn query<L: Lines>(
     path: &str,
     sql: &str,
     lines: &mut L,
-) -> Result<u64, RunError<L::Error>> {
+) -> Result<u64, RunError<L::Error>>
+    ensures refused { is_query sql.now ≡ false
+        → result ≡ Err (RunError.Catalog CatalogError.NotAQuery) }
+    ensures kept { is_query sql.now ≡ false → lines.new ≡ lines.old }
+{
     if !is_query(sql) {
         return Err(RunError::Catalog(CatalogError::NotAQuery));
     }

@@ -1,22 +1,30 @@
 //! A run over a catalogue: rows that follow the pictures of a run.
 
-ghost use Rattle.std.specs.Prelude.{◌≡◌, ℕ, List, IfOk, OnOk, Some, is_some, true};
+ghost use Rattle.std.specs.Prelude.{◌≡◌, ◌⊎◌, ℕ, List, IfErr, IfOk, Err, Ok, OnErr, OnOk, Some, false, is_some, map, string_bytes, true};
+ghost use Rattle.std.specs.BTreeMap.{get_by_text};
 ghost use Rattle.exif_catalog.specs.Totals.{outcome_of};
 ghost use Rattle.exif_catalog.specs.Parameters.{bound, parameter_of};
 ghost use Rattle.exif_catalog.specs.Values.{stored};
 ghost use Rattle.exif_catalog.specs.Known.{is_no, known_from, stamp_from};
-ghost use Rattle.exif_catalog.specs.Runs.{has_path, has_stamp_of, known_after, known_at, marks_in};
+ghost use Rattle.sqlite.specs.Held.{state};
+ghost use Rattle.sqlite.specs.State.{CommitsBy, HasCleanDisk, Survives};
+ghost use Rattle.sqlite.specs.Values.{bound as bound_row, bound_value};
+ghost use Rattle.sqlite_value.specs.Value.{owned};
+ghost use Rattle.exif_summary.specs.Columns.{columns};
+ghost use Rattle.exif_catalog.specs.Schema.{insert_text};
+ghost use Rattle.exif_catalog.specs.Statements.{RunsWith, WritesRow, amount_at, entry_at, known_at as known_in, mark_parameters, mark_row, parameter_value, path_parameter, stamp_at};
+ghost use Rattle.exif_catalog.specs.Runs.{forgotten, has_path, has_stamp_of, known_after, known_at, marks_in};
 
 use crate::database::{number_at, prepare, prepare_tables, text_at};
 use crate::errors::CatalogError;
 use crate::hashes::{Move, read_moves};
-use crate::known::{Known, Rows, Stamp, is_unchanged, mark_of, see, stamp_for};
+use crate::known::{Known, Rows, Stamp, forget, is_unchanged, mark_of, see, stamp_for};
 use crate::schema::{DELETE_ROW, MARK_ROW, READ_ROWS, insert_text};
 use crate::totals::{Outcome, Totals, outcome_of};
 use crate::values::SqlValue;
 use sqlite::types::ValueRef;
 use sqlite::{Alter, Connection, Row, Statement, params};
-use std::alloc::Global;
+use std::alloc::{AllocError, Global};
 
 /// What a run knows of the rows, and the statements that change them.
 #[derive(Drop)]
@@ -27,7 +35,9 @@ pub(crate) struct Catalog {
 }
 
 // A number of a row that is not negative.
-fn amount_at(row: &Row, column: usize) -> Result<Option<u64>, CatalogError> {
+fn amount_at(row: &Row, column: usize) -> Result<Option<u64>, CatalogError>
+    ensures { result ≡ amount_at row.now column }
+{
     match number_at(row, column)? {
         Some(number) => Ok(u64::try_from(number).ok()),
         None => Ok(None),
@@ -35,7 +45,9 @@ fn amount_at(row: &Row, column: usize) -> Result<Option<u64>, CatalogError> {
 }
 
 // The stamp that a row has, if it has all of it.
-fn stamp_of(row: &Row) -> Result<Option<Stamp>, CatalogError> {
+fn stamp_of(row: &Row) -> Result<Option<Stamp>, CatalogError>
+    ensures { result ≡ stamp_at row.now }
+{
     let (size, modified) = (amount_at(row, 1)?, amount_at(row, 2)?);
     let (modified_ns, changed) = (amount_at(row, 3)?, amount_at(row, 4)?);
     let (changed_ns, device) = (amount_at(row, 5)?, amount_at(row, 6)?);
@@ -93,10 +105,24 @@ fn known_from(
 }
 
 // What is known of a picture, by its row.
-fn known_of(row: &Row, needs_hash: bool) -> Result<Known, CatalogError> {
+fn known_of(row: &Row, needs_hash: bool) -> Result<Known, CatalogError>
+    ensures { result ≡ known_in row.now needs_hash }
+{
     let stamp = stamp_of(row)?;
     let (removed, lacks_hash) = (number_at(row, 8)?, number_at(row, 9)?);
     Ok(known_from(stamp, removed, lacks_hash, needs_hash))
+}
+
+// The path of a row, and what is known of its picture.
+fn entry_of(alloc: Global, row: &Row, needs_hash: bool) -> Result<(String, Known), CatalogError>
+    ensures entry { IfOk result (λ it. entry_at row.now needs_hash
+        ≡ Ok (string_bytes it.0, it.1)) }
+    ensures refused { IfErr result (λ e. (e ≡ CatalogError.OutOfMemory)
+        ⊎ (entry_at row.now needs_hash ≡ Err e)) }
+{
+    let path = text_at(alloc, row, 0)?;
+    let known = known_of(row, needs_hash)?;
+    Ok((path, known))
 }
 
 // What is known of all pictures.
@@ -111,8 +137,7 @@ fn read_rows<S: Alter>(
         let Some(row) = answer.next()? else {
             break;
         };
-        let path = text_at(row, 0)?;
-        let known = known_of(row, needs_hash)?;
+        let (path, known) = entry_of(alloc, row, needs_hash)?;
         rows.insert(path, known)?;
     }
     Ok(rows)
@@ -120,7 +145,8 @@ fn read_rows<S: Alter>(
 
 // A value as a parameter of the text that writes a row.
 fn parameter(value: &SqlValue) -> ValueRef<'_>
-    ensures { bound result ≡ Some (parameter_of (stored value.now)) }
+    ensures stored { bound result ≡ Some (parameter_of (stored value.now)) }
+    ensures value { bound_value (owned result) ≡ parameter_value value.now }
 {
     match value {
         SqlValue::Null => ValueRef::Null,
@@ -134,7 +160,12 @@ fn write<S: Alter>(
     database: &mut Connection<S>,
     statement: &Statement,
     parameters: &[ValueRef<'_>],
-) -> Result<(), CatalogError> {
+) -> Result<(), CatalogError>
+    ensures runs { HasCleanDisk (state S.Store database.new) → RunsWith S.Store statement.now.text
+        (bound_row parameters.now) database.old database.new result }
+    ensures survives { Survives (state S.Store database.old) (state S.Store database.new)
+        (CommitsBy statement.now.text (bound_row parameters.now) (state S.Store database.old)) }
+{
     statement.execute(database, parameters)?;
     Ok(())
 }
@@ -149,15 +180,60 @@ fn begins_with_path(values: &[SqlValue], path: &str) -> bool
     }
 }
 
+// The values of a row as parameters.
+fn parameters_of<'v>(alloc: Global, values: &'v [SqlValue]) -> Result<Vec<ValueRef<'v>>, AllocError>
+    ensures { IfOk result (λ all. bound_row all.items ≡ map parameter_value values.entry.now) }
+{
+    let mut parameters = Vec::new(alloc);
+    for value in values {
+        parameters.push(parameter(value))?;
+    }
+    Ok(parameters)
+}
+
 // Writes the values of a row.
 fn write_row<S: Alter>(
     alloc: Global,
     database: &mut Connection<S>,
     insert: &Statement,
     values: &[SqlValue],
-) -> Result<(), CatalogError> {
-    let parameters: Vec<ValueRef<'_>> = values.iter().map(parameter).collect(alloc)?;
+) -> Result<(), CatalogError>
+    ensures writes { HasCleanDisk (state S.Store database.new) → WritesRow S.Store
+        insert.now.text values.now database.old database.new result }
+{
+    let parameters = parameters_of(alloc, values)?;
     write(database, insert, parameters.as_slice())
+}
+
+// Takes the row of a path away.
+fn delete_row<S: Alter>(
+    database: &mut Connection<S>,
+    delete: &Statement,
+    path: &str,
+) -> Result<(), CatalogError>
+    ensures runs { HasCleanDisk (state S.Store database.new) → RunsWith S.Store delete.now.text
+        (path_parameter path.now) database.old database.new result }
+{
+    write(database, delete, params![path])
+}
+
+// Takes the rows of the old paths away.
+fn delete_rows<S: Alter>(database: &mut Connection<S>, moves: &[Move]) -> Result<(), CatalogError> {
+    let delete = prepare(database, DELETE_ROW)?;
+    for moved in moves {
+        delete_row(database, &delete, moved.old.as_str())?;
+    }
+    Ok(())
+}
+
+// Forgets the rows of the old paths.
+fn forget_moved(rows: &mut Rows, moves: &[Move])
+    ensures { (q : List ℕ) → get_by_text rows.new q
+        ≡ forgotten moves.now (get_by_text rows.old q) q }
+{
+    for moved in moves {
+        forget(rows, moved.old.as_str());
+    }
 }
 
 impl Catalog {
@@ -167,7 +243,12 @@ impl Catalog {
         alloc: Global,
         database: &mut Connection<S>,
         needs_hash: bool,
-    ) -> Result<Catalog, CatalogError> {
+    ) -> Result<Catalog, CatalogError>
+        ensures insert { HasCleanDisk (state S.Store database.new)
+            → IfOk result (λ it. it.insert.text ≡ insert_text columns) }
+        ensures mark { HasCleanDisk (state S.Store database.new)
+            → IfOk result (λ it. it.mark.text ≡ mark_row) }
+    {
         prepare_tables(alloc, database)?;
         let rows = read_rows(alloc, database, needs_hash)?;
         let insert = prepare(database, insert_text())?;
@@ -207,6 +288,12 @@ impl Catalog {
         ensures path { OnOk result (has_path path.now values.now ≡ true) }
         ensures outcome { IfOk result (λ outcome.
             outcome ≡ outcome_of (is_some (known_at self.old path.now))) }
+        ensures writes { HasCleanDisk (state S.Store database.new) → OnOk result (RunsWith S.Store
+            self.old.insert.text (map parameter_value values.now) database.old database.new
+            (Ok tt)) }
+        ensures refused { has_path path.now values.now ≡ false
+            → (result ≡ Err CatalogError.NoPath) × (database.new ≡ database.old) }
+        ensures failed { OnErr result (self.new ≡ self.old) }
     {
         if !begins_with_path(values, path) {
             return Err(CatalogError::NoPath);
@@ -224,13 +311,14 @@ impl Catalog {
         alloc: Global,
         database: &mut Connection<S>,
         roots: &[&str],
-    ) -> Result<Vec<Move>, CatalogError> {
+    ) -> Result<Vec<Move>, CatalogError>
+        ensures forgotten { IfOk result (λ moves. (q : List ℕ) → known_at self.new q
+            ≡ forgotten moves.items (known_at self.old q) q) }
+        ensures failed { OnErr result (self.new ≡ self.old) }
+    {
         let moves = read_moves(alloc, database, &self.rows, roots)?;
-        let delete = prepare(database, DELETE_ROW)?;
-        for moved in moves.iter() {
-            write(database, &delete, params![moved.old.as_str()])?;
-            self.rows.remove(moved.old.as_str());
-        }
+        delete_rows(database, moves.as_slice())?;
+        forget_moved(&mut self.rows, moves.as_slice());
         Ok(moves)
     }
 
@@ -240,7 +328,11 @@ impl Catalog {
         database: &mut Connection<S>,
         path: &str,
         is_removed: bool,
-    ) -> Result<(), CatalogError> {
+    ) -> Result<(), CatalogError>
+        ensures runs { HasCleanDisk (state S.Store database.new) → RunsWith S.Store
+            self.now.mark.text (mark_parameters path.now is_removed)
+            database.old database.new result }
+    {
         write(database, &self.mark, params![path, is_removed])
     }
 

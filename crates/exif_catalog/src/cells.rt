@@ -1,7 +1,7 @@
 //! The text of an answer: a line for a row, whose values have tabs between them.
 
 ghost use Rattle.std.specs.Prelude.{◌≡◌, ◌++◌, OnOk};
-ghost use Rattle.exif_catalog.specs.Cells.{begins_word, is_query, is_word_byte, tsv_byte, tsv_field};
+ghost use Rattle.exif_catalog.specs.Cells.{begins_word, gap_before, is_query, is_word_byte, tsv_byte, tsv_field};
 ghost use Rattle.exif_catalog.specs.Shown.{Adds};
 
 use sqlite::types::ValueRef;
@@ -47,6 +47,16 @@ fn push_byte(line: &mut Vec<u8>, byte: u8) -> Result<(), AllocError>
         b'\\' => line.extend_from_slice(b"\\\\"),
         byte => Ok(line.push(byte)?),
     }
+}
+
+/// Adds what is before a value of a line.
+pub(crate) fn push_gap(line: &mut Vec<u8>, at: usize) -> Result<(), AllocError>
+    ensures { OnOk result (line.new.items ≡ line.old.items ++ gap_before at) }
+{
+    if at > 0 {
+        line.push(b'\t')?;
+    }
+    Ok(())
 }
 
 /// Adds a value to a line: a tab, a line feed, a carriage return and a backslash are written as

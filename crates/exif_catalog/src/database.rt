@@ -1,90 +1,201 @@
 //! The database file of a catalogue.
 
+ghost use Rattle.std.specs.Prelude.{◌≡◌, ◌⊎◌, [], Ok, Err, string_bytes, IfErr, IfOk, OnOk, map};
+ghost use Rattle.sqlite_value.specs.Order.{Row as SqlRow};
+ghost use Rattle.sqlite.specs.Held.{state};
+ghost use Rattle.sqlite.specs.State.{CommitsBy, HasCleanDisk, IsNotRun, IsUnchanged, Survives};
+ghost use Rattle.exif_catalog.specs.Errors.{database_error};
+ghost use Rattle.exif_catalog.specs.Statements.{Asks, AsksCatalog, AsksTable, AsksVersion, Begins, ByTables, ChecksAs, Commits, FindsTables, IsText, MakesRest, MakesTables, PreparesAs, Runs, number_at, read_create, read_version, table_answer, text_at, texts_at, version_answer};
+
 use crate::errors::{CatalogError, RunError};
 use crate::schema::{
     CREATE_VERSION, READ_CREATE, READ_TABLES, READ_VERSION, VERSION, WRITE_VERSION, create_text,
 };
 use crate::tables::{Tables, tables_of};
-use sqlite::{Alter, Connection, Row, Statement};
+use sqlite::types::{Type, ValueRef};
+use sqlite::{Alter, Connection, Error, Row, Statement};
 use std::alloc::Global;
 
-/// Runs a statement that has no parameters.
-pub(crate) fn execute<S: Alter>(
-    database: &mut Connection<S>,
-    sql: &str,
-) -> Result<(), CatalogError> {
+// Runs a statement that has no parameters.
+fn execute<S: Alter>(database: &mut Connection<S>, sql: &str) -> Result<(), CatalogError>
+    ensures runs { HasCleanDisk (state S.Store database.new)
+        → Runs S.Store sql.now database.old database.new result }
+    ensures survives { Survives (state S.Store database.old) (state S.Store database.new)
+        (CommitsBy sql.now [] (state S.Store database.old)) }
+{
     database.execute(sql, &[])?;
     Ok(())
+}
+
+/// Begins a transaction.
+pub(crate) fn begin<S: Alter>(database: &mut Connection<S>) -> Result<(), CatalogError>
+    ensures runs { HasCleanDisk (state S.Store database.new)
+        → Begins S.Store database.old database.new result }
+{
+    execute(database, "BEGIN")
+}
+
+/// Keeps what a transaction did.
+pub(crate) fn commit<S: Alter>(database: &mut Connection<S>) -> Result<(), CatalogError>
+    ensures runs { HasCleanDisk (state S.Store database.new)
+        → Commits S.Store database.old database.new result }
+{
+    execute(database, "COMMIT")
 }
 
 /// Compiles a statement.
 pub(crate) fn prepare<S: Alter>(
     database: &mut Connection<S>,
     sql: &str,
-) -> Result<Statement, CatalogError> {
+) -> Result<Statement, CatalogError>
+    ensures text { HasCleanDisk (state S.Store database.new)
+        → IfOk result (λ s. s.text ≡ sql.now) }
+    ensures same { HasCleanDisk (state S.Store database.new) → OnOk result
+        (IsUnchanged (state S.Store database.old) (state S.Store database.new)) }
+    ensures refused { HasCleanDisk (state S.Store database.new) → IfErr result (λ e. (why : Error)
+        × (e ≡ database_error why) × ((params : SqlRow) → IsNotRun (state S.Store database.old)
+        (state S.Store database.new) sql.now params why)) }
+    ensures survives { Survives (state S.Store database.old) (state S.Store database.new) (λ _. ⊥) }
+{
     Ok(database.prepare(sql)?)
 }
 
 /// The text in a column of a row.
-pub(crate) fn text_at(row: &Row, column: usize) -> Result<String, CatalogError> {
-    Ok(row.get(column)?)
+pub(crate) fn text_at(alloc: Global, row: &Row, column: usize) -> Result<String, CatalogError>
+    ensures text { IfOk result (λ text. text_at row.now column ≡ Ok (string_bytes text)) }
+    ensures refused { IfErr result (λ e. (e ≡ CatalogError.OutOfMemory)
+        ⊎ (text_at row.now column ≡ Err e)) }
+{
+    match row.get_ref(column)? {
+        ValueRef::Text(bytes) => match std::str::from_utf8(bytes) {
+            Ok(text) => Ok(String::from_str(alloc, text)?),
+            Err(_) => Err(CatalogError::Database(Error::Utf8Error(column))),
+        },
+        other => Err(CatalogError::Database(Error::InvalidColumnType(column, Type::of(other)))),
+    }
 }
 
 /// The whole number in a column of a row, if it has one.
-pub(crate) fn number_at(row: &Row, column: usize) -> Result<Option<i64>, CatalogError> {
-    Ok(row.get(column)?)
+pub(crate) fn number_at(row: &Row, column: usize) -> Result<Option<i64>, CatalogError>
+    ensures { result ≡ number_at row.now column }
+{
+    match row.get_ref(column)? {
+        ValueRef::Null => Ok(None),
+        ValueRef::Int(number) => Ok(Some(number)),
+        other => Err(CatalogError::Database(Error::InvalidColumnType(column, Type::of(other)))),
+    }
 }
 
-// The names of the tables that are there.
-fn read_tables<S: Alter>(
-    alloc: Global,
-    database: &mut Connection<S>,
-) -> Result<Vec<String>, CatalogError> {
-    let mut names = Vec::new(alloc);
-    let mut answer = database.query(READ_TABLES, &[])?;
-    for _ in 0..u64::MAX {
-        let Some(row) = answer.next()? else {
-            break;
-        };
-        names.push(text_at(row, 0)?)?;
+// The texts in the first column of rows.
+fn texts_of(alloc: Global, rows: &[Row]) -> Result<Vec<String>, CatalogError>
+    ensures texts { IfOk result (λ texts. texts_at rows.now ≡ Ok (map string_bytes texts.items)) }
+    ensures refused { IfErr result (λ e. (e ≡ CatalogError.OutOfMemory)
+        ⊎ (texts_at rows.now ≡ Err e)) }
+{
+    let mut texts = Vec::new(alloc);
+    for row in rows {
+        let text = text_at(alloc, row, 0)?;
+        texts.push(text)?;
     }
-    Ok(names)
+    Ok(texts)
 }
 
 // The version of the tables.
-fn read_version<S: Alter>(database: &mut Connection<S>) -> Result<Option<i64>, CatalogError> {
+fn read_version<S: Alter>(database: &mut Connection<S>) -> Result<Option<i64>, CatalogError>
+    ensures asks { HasCleanDisk (state S.Store database.new) → Asks S.Store read_version
+        (λ row result. result ≡ number_at row 0) database.old database.new result }
+    ensures clean { HasCleanDisk (state S.Store database.new)
+        → HasCleanDisk (state S.Store database.old) }
+{
     let row = database.query_row(READ_VERSION, &[])?;
     number_at(&row, 0)
 }
 
 // The text that made the table of pictures.
-fn read_create_text<S: Alter>(database: &mut Connection<S>) -> Result<String, CatalogError> {
+fn read_create_text<S: Alter>(
+    alloc: Global,
+    database: &mut Connection<S>,
+) -> Result<String, CatalogError>
+    ensures asks { HasCleanDisk (state S.Store database.new) → Asks S.Store read_create IsText
+        database.old database.new result }
+    ensures clean { HasCleanDisk (state S.Store database.new)
+        → HasCleanDisk (state S.Store database.old) }
+{
     let row = database.query_row(READ_CREATE, &[])?;
-    text_at(&row, 0)
+    text_at(alloc, &row, 0)
 }
 
-// Refuses a table of pictures that was made, or changed, by others.
-fn check_table<S: Alter>(database: &mut Connection<S>) -> Result<(), CatalogError> {
-    let text = read_create_text(database)?;
-    if text.as_str() == create_text() {
+// Refuses a text that is not the one that makes the table of pictures.
+fn accept_table(text: &str) -> Result<(), CatalogError>
+    ensures { result ≡ table_answer text.now }
+{
+    if text == create_text() {
         Ok(())
     } else {
         Err(CatalogError::OtherTables)
     }
 }
 
+// Refuses a table of pictures that was made, or changed, by others.
+fn check_table<S: Alter>(alloc: Global, database: &mut Connection<S>) -> Result<(), CatalogError>
+    ensures asks { HasCleanDisk (state S.Store database.new)
+        → AsksTable S.Store database.old database.new result }
+    ensures clean { HasCleanDisk (state S.Store database.new)
+        → HasCleanDisk (state S.Store database.old) }
+{
+    accept_table(read_create_text(alloc, database)?.as_str())
+}
+
 // Refuses a version that this program does not read.
-fn check_version<S: Alter>(database: &mut Connection<S>) -> Result<(), CatalogError> {
-    match read_version(database)? {
-        Some(VERSION) => check_table(database),
+fn accept_version(version: Option<i64>) -> Result<(), CatalogError>
+    ensures { result ≡ version_answer version }
+{
+    match version {
+        Some(VERSION) => Ok(()),
         Some(version) => Err(CatalogError::OtherVersion(version)),
         None => Err(CatalogError::OtherTables),
     }
 }
 
+// Refuses tables of a version that this program does not read.
+fn check_number<S: Alter>(database: &mut Connection<S>) -> Result<(), CatalogError>
+    ensures asks { HasCleanDisk (state S.Store database.new)
+        → AsksVersion S.Store database.old database.new result }
+    ensures clean { HasCleanDisk (state S.Store database.new)
+        → HasCleanDisk (state S.Store database.old) }
+{
+    accept_version(read_version(database)?)
+}
+
+// Refuses tables that are not those of this version.
+fn check_version<S: Alter>(alloc: Global, database: &mut Connection<S>) -> Result<(), CatalogError>
+    ensures asks { HasCleanDisk (state S.Store database.new)
+        → AsksCatalog S.Store database.old database.new result }
+    ensures clean { HasCleanDisk (state S.Store database.new)
+        → HasCleanDisk (state S.Store database.old) }
+{
+    check_number(database)?;
+    check_table(alloc, database)
+}
+
 // Makes the tables.
-fn create_tables<S: Alter>(database: &mut Connection<S>) -> Result<(), CatalogError> {
+fn create_tables<S: Alter>(database: &mut Connection<S>) -> Result<(), CatalogError>
+    ensures makes { HasCleanDisk (state S.Store database.new)
+        → MakesTables S.Store database.old database.new result }
+    ensures clean { HasCleanDisk (state S.Store database.new)
+        → HasCleanDisk (state S.Store database.old) }
+{
     execute(database, CREATE_VERSION)?;
+    create_rest(database)
+}
+
+// Writes the version, and makes the table of pictures.
+fn create_rest<S: Alter>(database: &mut Connection<S>) -> Result<(), CatalogError>
+    ensures makes { HasCleanDisk (state S.Store database.new)
+        → MakesRest S.Store database.old database.new result }
+    ensures clean { HasCleanDisk (state S.Store database.new)
+        → HasCleanDisk (state S.Store database.old) }
+{
     execute(database, WRITE_VERSION)?;
     execute(database, create_text())
 }
@@ -93,8 +204,14 @@ fn create_tables<S: Alter>(database: &mut Connection<S>) -> Result<(), CatalogEr
 fn find_tables<S: Alter>(
     alloc: Global,
     database: &mut Connection<S>,
-) -> Result<Tables, CatalogError> {
-    let names = read_tables(alloc, database)?;
+) -> Result<Tables, CatalogError>
+    ensures finds { HasCleanDisk (state S.Store database.new)
+        → FindsTables S.Store database.old database.new result }
+    ensures clean { HasCleanDisk (state S.Store database.new)
+        → HasCleanDisk (state S.Store database.old) }
+{
+    let rows = database.query_all(READ_TABLES, &[])?;
+    let names = texts_of(alloc, rows.as_slice())?;
     Ok(tables_of(names.as_slice()))
 }
 
@@ -102,10 +219,13 @@ fn find_tables<S: Alter>(
 pub(crate) fn prepare_tables<S: Alter>(
     alloc: Global,
     database: &mut Connection<S>,
-) -> Result<(), CatalogError> {
+) -> Result<(), CatalogError>
+    ensures prepares { HasCleanDisk (state S.Store database.new) → ByTables S.Store
+        (PreparesAs S.Store) database.old database.new result }
+{
     match find_tables(alloc, database)? {
         Tables::None => create_tables(database),
-        Tables::Catalog => check_version(database),
+        Tables::Catalog => check_version(alloc, database),
         Tables::Other => Err(CatalogError::OtherTables),
     }
 }
@@ -114,9 +234,12 @@ pub(crate) fn prepare_tables<S: Alter>(
 pub(crate) fn check_tables<S: Alter>(
     alloc: Global,
     database: &mut Connection<S>,
-) -> Result<(), CatalogError> {
+) -> Result<(), CatalogError>
+    ensures checks { HasCleanDisk (state S.Store database.new) → ByTables S.Store
+        (ChecksAs S.Store) database.old database.new result }
+{
     match find_tables(alloc, database)? {
-        Tables::Catalog => check_version(database),
+        Tables::Catalog => check_version(alloc, database),
         Tables::None | Tables::Other => Err(CatalogError::OtherTables),
     }
 }

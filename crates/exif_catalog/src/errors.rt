@@ -1,5 +1,10 @@
 //! Why a catalogue cannot be used.
 
+ghost use Rattle.std.specs.Prelude.{◌≡◌};
+ghost use Rattle.exif_catalog.specs.Errors.{database_error, file_error};
+ghost use Rattle.exif_catalog.specs.declared.errors.CatalogError.TheVariants as catalog;
+ghost use Rattle.exif_catalog.specs.declared.errors.RunError.TheVariants as run;
+
 use crate::schema::VERSION;
 use sqlite::{Error, ErrorCode};
 use std::alloc::{AllocError, AllocFailed};
@@ -48,6 +53,10 @@ pub enum RunError<E> {
 }
 
 impl fmt::Display for CatalogError {
+    ghost use Rattle.exif_catalog.specs.Errors.{error_text};
+
+    ghost output = { error_text };
+
     fn fmt<W: fmt::Write>(&self, f: &mut fmt::Formatter<W>) -> fmt::Result {
         match self {
             CatalogError::Absent => f.write_str("no such catalogue: `catalog` makes one"),
@@ -86,6 +95,8 @@ impl fmt::Display for CatalogError {
 impl std::error::Error for CatalogError {}
 
 impl From<Error> for CatalogError {
+    ghost from_gives = { λ failure error. error ≡ database_error failure };
+
     fn from(error: Error) -> CatalogError {
         match error {
             Error::SqliteFailure(ErrorCode::OutOfMemory) => CatalogError::OutOfMemory,
@@ -95,6 +106,8 @@ impl From<Error> for CatalogError {
 }
 
 impl From<io::Error> for CatalogError {
+    ghost from_gives = { λ failure error. error ≡ file_error failure };
+
     fn from(error: io::Error) -> CatalogError {
         match error.kind() {
             io::ErrorKind::OutOfMemory => CatalogError::OutOfMemory,
@@ -104,30 +117,40 @@ impl From<io::Error> for CatalogError {
 }
 
 impl From<AllocError> for CatalogError {
+    ghost from_gives = { λ _ error. error ≡ catalog.OutOfMemory };
+
     fn from(_error: AllocError) -> CatalogError {
         CatalogError::OutOfMemory
     }
 }
 
 impl<T: Drop> From<AllocFailed<T>> for CatalogError {
+    ghost from_gives = { λ _ error. error ≡ catalog.OutOfMemory };
+
     fn from(_error: AllocFailed<T>) -> CatalogError {
         CatalogError::OutOfMemory
     }
 }
 
 impl<E> From<CatalogError> for RunError<E> {
+    ghost from_gives = { λ failure error. error ≡ run.Catalog failure };
+
     fn from(error: CatalogError) -> RunError<E> {
         RunError::Catalog(error)
     }
 }
 
 impl<E> From<Error> for RunError<E> {
+    ghost from_gives = { λ failure error. error ≡ run.Catalog (database_error failure) };
+
     fn from(error: Error) -> RunError<E> {
         RunError::Catalog(CatalogError::from(error))
     }
 }
 
 impl<E> From<AllocError> for RunError<E> {
+    ghost from_gives = { λ _ error. error ≡ run.Catalog catalog.OutOfMemory };
+
     fn from(_error: AllocError) -> RunError<E> {
         RunError::Catalog(CatalogError::OutOfMemory)
     }

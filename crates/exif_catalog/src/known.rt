@@ -1,6 +1,6 @@
 //! What a catalogue knows of the pictures that it has, and what becomes of their rows.
 
-ghost use Rattle.std.specs.Prelude.{◌≡◌, ℕ, List, if◌then◌else◌, option_map};
+ghost use Rattle.std.specs.Prelude.{◌≡◌, ℕ, List, None, if◌then◌else◌, option_map};
 ghost use Rattle.std.specs.BTreeMap.{get_by_text};
 ghost use Rattle.std.specs.Str.{bytes_eq};
 ghost use Rattle.exif_catalog.specs.Known.{has_stamp, is_below, is_below_any, is_same, is_stamp, mark_of, seen, side_of, stamp_for};
@@ -145,4 +145,12 @@ pub fn see(rows: &mut Rows, path: &str)
     if let Some(known) = rows.get_mut(path) {
         known.is_seen = true;
     }
+}
+
+/// Forgets the row of a picture.
+pub(crate) fn forget(rows: &mut Rows, path: &str)
+    ensures { (q : List ℕ) → get_by_text rows.new q
+        ≡ (if bytes_eq path.now q then None else get_by_text rows.old q) }
+{
+    rows.remove(path);
 }

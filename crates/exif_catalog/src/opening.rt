@@ -1,7 +1,11 @@
 //! Database files that are opened for a job, and closed behind it.
 
+ghost use Rattle.std.specs.Prelude.{◌≡◌, IsTrue, false, true};
+ghost use Rattle.exif_catalog.specs.Copies.{is_cause};
+ghost use Rattle.exif_catalog.specs.Errors.{database_error, is_closed};
+
 use crate::copies::{check_names, copy_of, memory_database};
-use crate::database::{Job, execute};
+use crate::database::{Job, begin};
 use crate::errors::{CatalogError, RunError};
 use sqlite::{Alter, Connection, Error, ErrorCode};
 use std::alloc::Global;
@@ -13,18 +17,31 @@ fn run_inside<S: Alter, J: Job>(
     database: &mut Connection<S>,
     job: &mut J,
 ) -> Result<J::Answer, RunError<J::Error>> {
-    execute(database, "BEGIN")?;
+    begin(database)?;
     job.run(alloc, database)
 }
 
 // Why a database could not be opened, by what is at its path.
-fn cause_of(rt: &HostRuntime, path: &str) -> CatalogError {
+fn cause_of(rt: &HostRuntime, path: &str) -> CatalogError
+    ensures named { IsTrue (is_cause result) }
+{
     let Ok(real) = fs::canonicalize(rt, path) else {
         return CatalogError::NotMade;
     };
     match check_names(rt, real.as_str()) {
         Ok(()) => CatalogError::ReadOnly,
         Err(error) => error,
+    }
+}
+
+// Which error it is that a database was not opened.
+fn failure_of(rt: &HostRuntime, path: &str, error: Error) -> CatalogError
+    ensures cause { is_closed error ≡ true → IsTrue (is_cause result) }
+    ensures other { is_closed error ≡ false → result ≡ database_error error }
+{
+    match error {
+        Error::SqliteFailure(ErrorCode::CannotOpen) => cause_of(rt, path),
+        other => CatalogError::from(other),
     }
 }
 
@@ -38,10 +55,7 @@ pub(crate) fn run_job<J: Job>(
 ) -> Result<J::Answer, RunError<J::Error>> {
     let mut database = match Connection::open(rt, path) {
         Ok(database) => database,
-        Err(Error::SqliteFailure(ErrorCode::CannotOpen)) => {
-            return Err(RunError::Catalog(cause_of(rt, path)));
-        }
-        Err(error) => return Err(RunError::from(error)),
+        Err(error) => return Err(RunError::Catalog(failure_of(rt, path, error))),
     };
     let answer = run_inside(rt.alloc(), &mut database, job);
     // What was not kept is undone, and the log is copied into the file. Where that fails, the next

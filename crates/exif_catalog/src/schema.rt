@@ -2,9 +2,7 @@
 
 ghost use Rattle.std.specs.Prelude.{◌≡◌};
 ghost use Rattle.exif_summary.specs.Columns.{columns};
-ghost use Rattle.exif_catalog.specs.Schema.{create_text, insert_text, pictures_text};
-
-use exif_summary::Column;
+ghost use Rattle.exif_catalog.specs.Schema.{create_text, insert_text, pictures_text, shown_columns};
 
 /// The version of the tables.
 pub const VERSION: i64 = 2;
@@ -29,20 +27,6 @@ pub(crate) const READ_CREATE: &str =
 pub(crate) const READ_ROWS: &str =
     "SELECT path, file_size, file_modified, file_modified_ns, file_changed, file_changed_ns, \
      file_device, file_inode, removed, hash IS NULL FROM picture";
-
-/// The columns that are shown of a picture, behind its path.
-pub(crate) const SHOWN: [Column; 10] = [
-    Column::Taken,
-    Column::Make,
-    Column::Model,
-    Column::Exposure,
-    Column::FNumber,
-    Column::Sensitivity,
-    Column::FocalLength,
-    Column::Latitude,
-    Column::Longitude,
-    Column::Orientation,
-];
 
 /// Reads the hashes that rows have.
 pub(crate) const READ_HASHES: &str = "SELECT path, hash FROM picture WHERE hash IS NOT NULL";
@@ -83,7 +67,7 @@ pub fn insert_text() -> &'static str
 /// The SQL text that reads the pictures that are there, by the date when they were taken and then
 /// by their paths; those without a date come last.
 pub(crate) fn pictures_text() -> &'static str
-    ensures { result.now ≡ pictures_text SHOWN }
+    ensures { result.now ≡ pictures_text shown_columns }
 {
     "SELECT path, date_taken, make, model, exposure_time, f_number, iso, focal_length, latitude, \
      longitude, orientation FROM picture WHERE removed = 0 ORDER BY date_taken IS NULL, date_taken, path"

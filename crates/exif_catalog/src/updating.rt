@@ -1,11 +1,11 @@
 //! A run over a catalogue, from its first picture to its end.
 
-ghost use Rattle.std.specs.Prelude.{◌≡◌, ℕ, List, IfOk, OnOk, string_bytes};
-ghost use Rattle.exif_catalog.specs.Runs.{has_stamp_of, known_after, known_at};
+ghost use Rattle.std.specs.Prelude.{◌≡◌, ◌&&◌, ℕ, List, [], false, nat_lt, All, Contains, IfOk, OnErr, OnOk, string_bytes};
+ghost use Rattle.exif_catalog.specs.Runs.{has_stamp_of, known_after, known_at, marks_in, moved_times};
 ghost use Rattle.exif_catalog.specs.Totals.{is_unchanged};
 
 use crate::catalog::Catalog;
-use crate::database::{Job, execute};
+use crate::database::{Job, commit};
 use crate::errors::{CatalogError, RunError};
 use crate::hashes::Move;
 use crate::heads::check_new;
@@ -68,6 +68,7 @@ fn take<S: Alter, P: Pictures>(
         ≡ known_after catalog.old (string_bytes found.now.path) q) }
     ensures kept { IfOk result (λ outcome. is_unchanged outcome
         ≡ has_stamp_of (known_at catalog.old (string_bytes found.now.path)) found.now.stamp) }
+    ensures failed { OnErr result (catalog.new ≡ catalog.old) }
 {
     let path = found.path.as_str();
     if catalog.is_unchanged(path, found.stamp) {
@@ -88,7 +89,9 @@ fn whole_roots<'a, P: Pictures>(
     alloc: Global,
     roots: &[&'a str],
     pictures: &P,
-) -> Result<Vec<&'a str>, AllocError> {
+) -> Result<Vec<&'a str>, AllocError>
+    ensures among { IfOk result (λ whole. All (λ root. Contains roots.now root) whole.items) }
+{
     let mut whole = Vec::new(alloc);
     for root in roots {
         if pictures.is_whole(root) {
@@ -96,6 +99,16 @@ fn whole_roots<'a, P: Pictures>(
         }
     }
     Ok(whole)
+}
+
+// Counts files that were moved.
+fn count_moves(mut totals: Totals, moves: &[Move]) -> Totals
+    ensures { result ≡ moved_times totals moves.now }
+{
+    for _moved in moves {
+        totals = totals.moved();
+    }
+    totals
 }
 
 // Gives the rows of files that were moved their new paths, and marks those of the others.
@@ -106,15 +119,18 @@ fn end<S: Alter>(
     roots: &[&str],
     needs_hash: bool,
     mut totals: Totals,
-) -> Result<Updated, CatalogError> {
+) -> Result<Updated, CatalogError>
+    ensures totals { IfOk result (λ all. all.totals ≡ marks_in roots.now
+        (moved_times totals all.moves.items) catalog.new.rows.entries) }
+    ensures none { needs_hash && nat_lt 0 totals.added ≡ false
+        → IfOk result (λ all. all.moves.items ≡ []) }
+{
     let moves = if needs_hash && totals.added > 0 {
         catalog.take_moves(alloc, database, roots)?
     } else {
         Vec::new(alloc)
     };
-    for _moved in moves.iter() {
-        totals = totals.moved();
-    }
+    totals = count_moves(totals, moves.as_slice());
     let totals = catalog.set_marks(database, roots, totals)?;
     Ok(Updated { totals, moves })
 }
@@ -165,7 +181,7 @@ impl<P: Pictures> Job for UpdateJob<'_, P> {
         database: &mut Connection<S>,
     ) -> Result<Updated, RunError<P::Error>> {
         let updated = take_all(alloc, database, self.roots, self.pictures)?;
-        execute(database, "COMMIT")?;
+        commit(database)?;
         Ok(updated)
     }
 }

@@ -1,7 +1,7 @@
 //! The pictures of a catalogue, one after the other.
 
-ghost use Rattle.std.specs.Prelude.{◌≡◌, IfOk, option_map, string_bytes};
-ghost use Rattle.exif_catalog.specs.Shown.{Shows, row_texts, text_at, texts_of_row};
+ghost use Rattle.std.specs.Prelude.{◌≡◌, IfErr, IfOk, map, option_map, string_bytes};
+ghost use Rattle.exif_catalog.specs.Shown.{AllOf, IsShown, Shows, row_texts, text_at, texts_of_row};
 
 use crate::database::{Job, check_tables};
 use crate::errors::{CatalogError, RunError};
@@ -68,7 +68,11 @@ fn text_of_value(alloc: Global, value: ValueRef<'_>) -> Result<Option<String>, A
 }
 
 // The texts of a row.
-fn texts_of(alloc: Global, row: &Row) -> Result<Texts, CatalogError> {
+fn texts_of(alloc: Global, row: &Row) -> Result<Texts, CatalogError>
+    ensures shown { IfOk result (λ it. AllOf IsShown row.now
+        (map (option_map string_bytes) it.texts.items)) }
+    ensures memory { IfErr result (λ e. e ≡ CatalogError.OutOfMemory) }
+{
     let mut texts = Vec::new(alloc);
     for i in 0..row.column_count() {
         texts.push(text_of_value(alloc, row.get_ref(i)?)?)?;
