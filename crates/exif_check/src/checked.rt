@@ -148,10 +148,7 @@ fn without_parts(alloc: Global, format: Option<PictureFormat>) -> Result<Vec<Che
 
 /// The same as an answer: a JPEG XL codestream has no parts, a file of another format that is known
 /// is NotSupported, and any other file InvalidFormat.
-pub fn check_picture(
-    alloc: Global,
-    file: &[u8],
-) -> Result<Result<Vec<Checked>, Error>, AllocError>
+pub fn check_picture(alloc: Global, file: &[u8]) -> Result<Result<Vec<Checked>, Error>, AllocError>
     ensures { IfOk result (λ answer. Answers (λ v. v.items) answer (checked_answer file.now)) }
 {
     match check(alloc, file)? {

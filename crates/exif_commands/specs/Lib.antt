@@ -1,2 +1,4 @@
+pub mod Backs
 pub mod Checks
+pub mod Members
 pub mod Reads

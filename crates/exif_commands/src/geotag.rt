@@ -1,12 +1,9 @@
 //! Pictures that get their location from the track of a GPS receiver.
 
 use exif::{Error, Sink, Tag};
-use exif_change::{Assignment, Refusal};
 use exif_decisions::Outcome;
 use exif_files::{Failure, HostFiles, Status, change};
-use exif_geotag::{
-    DateStamp, Relocation, Spot, TimeStamp, Track, TrackFault, Unlocated, spot_of_picture,
-};
+use exif_geotag::{Relocation, Spot, SpotTexts, Track, TrackFault, Unlocated, spot_of_picture};
 use exif_session::{
     Geotagging, NotChanged, Plan, Session, Stop, exif_if_any, outcome_of, read_file,
 };
@@ -103,20 +100,10 @@ fn relocate_file<W: Sink, E: Sink>(
     key: &str,
 ) -> Result<Outcome, Stop> {
     let alloc = session.rt.alloc();
-    let Spot { fix, moment } = located.spot;
-    let (day, time) = (DateStamp(moment), TimeStamp(moment));
-    let location = format!(in alloc; "Location={fix}")?;
-    let day = format!(in alloc; "{day}")?;
-    let time = format!(in alloc; "{time}")?;
-    let Some(mut values) = Assignment::parse_all(alloc, location.as_str())? else {
+    let texts = SpotTexts::of(alloc, located.spot)?;
+    let Some(values) = texts.values(alloc)? else {
         return session.refuse(path, &"its location can't be written");
     };
-    for (tag, text) in [
-        (Tag::GPSDateStamp, day.as_str()),
-        (Tag::GPSTimeStamp, time.as_str()),
-    ] {
-        values.push(Assignment { tag, text })?;
-    }
     let relocation = Relocation {
         values: values.as_slice(),
         stale: located.stale.as_slice(),

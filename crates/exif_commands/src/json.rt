@@ -3,6 +3,7 @@
 ghost use Rattle.std.specs.Prelude.{◌≡◌};
 ghost use Rattle.exif_commands.specs.Reads.{outcome_read};
 
+use crate::reads::with_faults;
 use exif::{Error, Exif, Sink, Tag};
 use exif_decisions::Outcome;
 use exif_formats::{Picture, PictureFormat};
@@ -109,9 +110,12 @@ fn summary_of(
         size: stamp.size,
         modified: stamp.modified,
     };
-    match found_of(alloc, answer) {
-        Ok((exif, faults)) => Ok(Ok((flat_json(alloc, &facts, Some(&exif))?, faults.len()))),
-        Err(Error::NotFound(_)) => Ok(Ok((flat_json(alloc, &facts, None)?, 0))),
+    let found = match found_of(alloc, answer) {
+        Ok((exif, faults)) => Ok((exif, faults.len())),
+        Err(error) => Err(error),
+    };
+    match with_faults(found) {
+        Ok((exif, faults)) => Ok(Ok((flat_json(alloc, &facts, exif.as_ref())?, faults))),
         Err(error) => Ok(Err(error)),
     }
 }

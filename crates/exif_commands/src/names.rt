@@ -5,18 +5,13 @@ use exif_rename::{Missing, split_path};
 use exif_session::{NewName, Renaming, exif_if_any, name_by, name_of};
 use std::alloc::AllocError;
 
-/// A path, cut before the ending of the file's name.
-pub fn split_name(path: &str) -> (&str, &str) {
-    split_path(path)
-}
-
 /// The new name of a file by a pattern and its date, or what it lacks; or why it can't be read.
 pub fn new_name(
     rt: &HostRuntime,
     renaming: &Renaming<'_>,
     path: &str,
 ) -> Result<Result<Result<NewName, Missing>, Error>, AllocError> {
-    let (stem, _) = split_name(name_of(path));
+    let (stem, _) = split_path(name_of(path));
     let exif = match exif_if_any(rt, path) {
         Ok(exif) => exif,
         Err(error) => return Ok(Err(error)),

@@ -1,21 +1,23 @@
 //! Files that get other names, by when and with which camera they were taken.
 
+use crate::members::{
+    Kind, Leaving, is_sidecar, is_there_said, left_as, looks_there, there_outcome,
+};
 use crate::moves::{Folders, Moving, move_all};
-use crate::names::{new_name, split_name};
+use crate::names::new_name;
 use crate::present::{Sizes, There, find_there};
 use exif::Sink;
-use exif_decisions::{Escaped, Found, NotRead, Outcome, ending_of, slash_after};
+use exif_decisions::{Escaped, Outcome};
 use exif_files::{HostFiles, folder_of};
 use exif_rename::{
-    Entry, Moment, PlanError, Shot, Wish, WishFile, compare_shots, group, plan_names, root_of,
+    Entry, Moment, PlanError, Shot, Wish, compare_shots, group, plan_names, split_path,
 };
-use exif_session::{NewName, Next, Renaming, Session, Stop, key_of, name_of};
+use exif_session::{
+    NewName, Next, Renaming, Session, Stop, folder_for, key_of, sidecars_of, wish_for,
+};
 use std::alloc::{AllocError, Global};
 use std::collections::BTreeSet;
 use std::{fs, io};
-
-// What follows the name of a picture, or its whole name, in those of its sidecars.
-const SIDECARS: [&str; 6] = [".xmp", ".XMP", ".aae", ".AAE", ".thm", ".THM"];
 
 // A file of the run.
 #[derive(Drop)]
@@ -25,17 +27,6 @@ struct Member {
     // where its links end
     key: String,
     kind: Kind,
-}
-
-// What a file is to the plan.
-#[derive(Clone, Copy)]
-enum Kind {
-    // a picture, whose fields give the new name
-    Picture,
-    // a file that was found in a folder, and goes with the pictures of its stem
-    Beside(NotRead),
-    // a sidecar that is there, of a picture that was named
-    Sidecar,
 }
 
 // The files of one stem, which get one new name.
@@ -174,12 +165,8 @@ fn add_sidecars(
     let alloc = rt.alloc();
     let mut found = Vec::new(alloc);
     for member in members.iter() {
-        let (stem, extension) = split_name(member.key.as_str());
-        for suffix in SIDECARS {
-            add_sidecar(rt, stem, "", suffix, seen, &mut found)?;
-            if !extension.is_empty() {
-                add_sidecar(rt, stem, extension, suffix, seen, &mut found)?;
-            }
+        for key in sidecars_of(alloc, member.key.as_str())? {
+            add_sidecar(rt, key, seen, &mut found)?;
         }
     }
     for sidecar in found {
@@ -191,13 +178,10 @@ fn add_sidecars(
 // Adds a sidecar, if it is there.
 fn add_sidecar(
     rt: &HostRuntime,
-    stem: &str,
-    extension: &str,
-    suffix: &str,
+    key: String,
     seen: &mut BTreeSet<String>,
     found: &mut Vec<Member>,
 ) -> Result<(), AllocError> {
-    let key = format!(in rt.alloc(); "{stem}{extension}{suffix}")?;
     let is_file = match fs::symlink_metadata(rt, key.as_str()) {
         Ok(there) => there.is_file(),
         Err(_nothing) => false,
@@ -210,11 +194,6 @@ fn add_sidecar(
         })?;
     }
     Ok(())
-}
-
-// Whether a file is a sidecar.
-fn is_sidecar(kind: Kind) -> bool {
-    matches!(kind, Kind::Sidecar | Kind::Beside(NotRead::Sidecar(_)))
 }
 
 // The files as the grouping sees them.
@@ -282,20 +261,16 @@ fn leave_all<W: Sink, E: Sink>(
 ) -> Result<(), Stop> {
     for member in together {
         let path = member.path.as_str();
-        match member.kind {
-            Kind::Picture => {
+        match left_as(member.kind, path) {
+            Leaving::Report => {
                 let named = new_name(session.rt, renaming, member.key.as_str())?;
                 if let Ok(Err(missing)) = named {
                     let outcome = session.leave(path, &missing)?;
                     session.count(outcome);
                 }
             }
-            Kind::Beside(why) => session.skip(path, Found::NotRead(why))?,
-            Kind::Sidecar => {
-                if let Some(ending) = ending_of(name_of(path)) {
-                    session.skip(path, Found::NotRead(NotRead::Sidecar(ending)))?;
-                }
-            }
+            Leaving::Skip(found) => session.skip(path, found)?,
+            Leaving::Pass => {}
         }
     }
     Ok(())
@@ -320,23 +295,14 @@ fn wish_of(
     named: &Member,
     name: &str,
 ) -> Result<Wish, AllocError> {
-    let (stem, _) = split_name(named.key.as_str());
-    let folder = if into.is_empty() {
-        root_of(folder_of(named.key.as_str()), name)
-    } else {
-        into
-    };
-    let slash = slash_after(folder);
-    let base = format!(in alloc; "{folder}{slash}{name}")?;
-    let mut files = Vec::new(alloc);
+    let key = named.key.as_str();
+    let (stem, _) = split_path(key);
+    let folder = folder_for(into, folder_of(key), name);
+    let mut paths = Vec::new(alloc);
     for member in together {
-        let ending = member.key.as_str().strip_prefix(stem).unwrap_or("");
-        files.push(WishFile {
-            old: member.key.clone()?,
-            ending: String::from_str(alloc, ending)?,
-        })?;
+        paths.push(member.key.as_str())?;
     }
-    Ok(Wish { base, files })
+    wish_for(alloc, folder, stem, name, paths.as_slice())
 }
 
 // The files that are to be planned.
@@ -397,7 +363,7 @@ fn leave_there<W: Sink, E: Sink>(
         paths: Vec::new(alloc),
     };
     for stem in stems {
-        if renaming.copy || renaming.into.is_some() {
+        if looks_there(renaming.copy, renaming.into.is_some()) {
             let found = find_there(session.rt, &mut sizes, &stem.wish, stem.sidecars)?;
             if let Some(there) = found {
                 let outcome = report_there(session, renaming.copy, stem.path.as_str(), &there)?;
@@ -422,7 +388,7 @@ fn report_there<W: Sink, E: Sink>(
     let alloc = session.rt.alloc();
     let to = Escaped(there.to.as_str());
     let what = format!(in alloc; "already there: {to}")?;
-    if !copy || !session.request.quiet {
+    if is_there_said(copy, session.request.quiet) {
         session.say(path, &what)?;
     }
     for sidecar in there.differing.iter() {
@@ -432,10 +398,7 @@ fn report_there<W: Sink, E: Sink>(
         )?;
         session.say(sidecar.from.as_str(), &what)?;
     }
-    if copy && there.differing.is_empty() {
-        return Ok(Outcome::Current);
-    }
-    Ok(Outcome::Unchanged)
+    Ok(there_outcome(copy, !there.differing.is_empty()))
 }
 
 fn refuse<W: Sink, E: Sink, T: std::fmt::Display>(

@@ -1,5 +1,6 @@
 //! A row of a table for each file.
 
+use crate::reads::with_faults;
 use exif::{Error, Exif, Sink};
 use exif_columns::{header, row};
 use exif_decisions::Outcome;
@@ -25,14 +26,10 @@ pub fn write_row<W: Sink, E: Sink>(
     table: &Table,
     path: &str,
 ) -> Result<Outcome, Stop> {
-    match found_in(session.rt, table, path) {
+    match with_faults(found_in(session.rt, table, path)) {
         Ok((exif, faults)) => {
-            write_cells(session, table, path, Some(&exif))?;
+            write_cells(session, table, path, exif.as_ref())?;
             session.skip_faults(path, faults)
-        }
-        Err(Error::NotFound(_)) => {
-            write_cells(session, table, path, None)?;
-            Ok(Outcome::Done)
         }
         Err(Error::OutOfMemory) => Err(Stop::OutOfMemory),
         Err(error) => session.refuse(path, &error),

@@ -1,11 +1,16 @@
 //! Thumbnails that are written to files.
 
+ghost use Rattle.std.specs.Prelude.{◌≡◌, IfOk, string_bytes};
+ghost use Rattle.exif_decisions.specs.Paths.{name_of};
+ghost use Rattle.exif_session.specs.Wished.{in_folder};
+
 use exif::{Error, Sink};
 use exif_change::Refusal;
-use exif_decisions::{Outcome, slash_after};
+use exif_decisions::Outcome;
 use exif_rename::give_unused;
-use exif_session::{Item, Session, Stop, name_of, out_of, thumbnail_of, write_out};
-use exif_thumbnails::Thumbnail;
+use exif_session::{
+    Item, Session, Stop, in_folder, jpeg_of, name_of, out_of, thumbnail_of, write_out,
+};
 use std::alloc::{AllocError, Global};
 use std::collections::BTreeSet;
 use std::fs;
@@ -90,17 +95,7 @@ fn write_jpeg<W: Sink, E: Sink>(
 // The thumbnail of a picture.
 fn thumbnail_in(rt: &HostRuntime, path: &str) -> Result<Vec<u8>, Refusal> {
     match thumbnail_of(rt, path) {
-        Ok(Some(Thumbnail::Jpeg(jpeg))) => Ok(jpeg),
-        Ok(Some(Thumbnail::TooLong)) => Err(Refusal::Reading(Error::InvalidFormat(
-            "The thumbnail is longer than 1 MiB",
-        ))),
-        Ok(Some(Thumbnail::CutOff)) => Err(Refusal::Reading(Error::InvalidFormat(
-            "The thumbnail is cut off",
-        ))),
-        Ok(Some(Thumbnail::Item(_coding))) => Err(Refusal::Reading(Error::InvalidFormat(
-            "The thumbnail is an item of the HEIF file, which is not read",
-        ))),
-        Ok(None) => Err(Refusal::NoThumbnail),
+        Ok(found) => jpeg_of(found),
         Err(Error::OutOfMemory) => Err(Refusal::OutOfMemory),
         Err(error) => Err(Refusal::Reading(error)),
     }
@@ -108,8 +103,8 @@ fn thumbnail_in(rt: &HostRuntime, path: &str) -> Result<Vec<u8>, Refusal> {
 
 // The path in a folder of a picture's thumbnail, without its ending: with the picture's whole name,
 // so that the thumbnails of `a.png` and `a.heic` are two.
-fn base_in(alloc: Global, folder: &str, path: &str) -> Result<String, AllocError> {
-    let name = name_of(path);
-    let slash = slash_after(folder);
-    format!(in alloc; "{folder}{slash}{name}")
+fn base_in(alloc: Global, folder: &str, path: &str) -> Result<String, AllocError>
+    ensures { IfOk result (λ text. string_bytes text ≡ in_folder folder.now (name_of path.now)) }
+{
+    in_folder(alloc, folder, name_of(path))
 }

@@ -1,5 +1,6 @@
 //! Renames that are taken back.
 
+use crate::backs::{Back, back_of};
 use crate::moves::{Folders, Moving, move_all};
 use exif::Sink;
 use exif_decisions::{Escaped, Outcome};
@@ -87,17 +88,20 @@ impl Undoing {
         step: Step,
     ) -> Result<Outcome, Stop> {
         let (old, new) = (step.from, step.to);
-        if step.copied {
-            let why = "a copy, which is not taken back; remove it by rm";
-            return session.refuse(new.as_str(), &why);
-        }
-        if !self.is_there(session.rt, new.as_str()) {
-            return session.refuse(new.as_str(), &"it is not there any more");
-        }
-        if self.is_there(session.rt, old.as_str()) {
-            let old = Escaped(old.as_str());
-            let why = format!(in session.rt.alloc(); "its old name is taken: {old}")?;
-            return session.refuse(new.as_str(), &why);
+        let has_new = self.is_there(session.rt, new.as_str());
+        let has_old = self.is_there(session.rt, old.as_str());
+        match back_of(step.copied, has_new, has_old) {
+            Back::Move => {}
+            Back::Copy => {
+                let why = "a copy, which is not taken back; remove it by rm";
+                return session.refuse(new.as_str(), &why);
+            }
+            Back::Gone => return session.refuse(new.as_str(), &"it is not there any more"),
+            Back::Taken => {
+                let old = Escaped(old.as_str());
+                let why = format!(in session.rt.alloc(); "its old name is taken: {old}")?;
+                return session.refuse(new.as_str(), &why);
+            }
         }
         if self.dry_run {
             self.names.insert(old.clone()?, true)?;

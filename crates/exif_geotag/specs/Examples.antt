@@ -1,5 +1,5 @@
 -- Worked examples, with values by hand.
-use Rattle.std.specs.Prelude.{◌≡◌, ℕ, ◌+◌, ◌-◌, ◌*◌, Bool, true, false, List, [], ◌∷◌, ◌++◌, codes, map, Option, Some, None, Result, Ok, Err, refl}
+use Rattle.std.specs.Prelude.{◌≡◌, ℕ, ◌+◌, ◌-◌, ◌*◌, Bool, true, false, List, [], ◌∷◌, ◌++◌, codes, map, Option, Some, None, Result, Ok, Err, refl, option_and_then}
 use Rattle.std.specs.Fmt.{digits}
 use Rattle.exif_text.specs.Plain.{zero_filled}
 use Rattle.exif_text.specs.declared.date.TimeOfDay.{TimeOfDay}
@@ -24,6 +24,7 @@ use Rattle.exif_geotag.specs.States.{enter, leave, with_attribute, with_text}
 use Rattle.exif_geotag.specs.Steps.{content_step, step_at, tag_step}
 use Rattle.exif_geotag.specs.Texts.{trimmed}
 use Rattle.exif_geotag.specs.Times.{ended, exif_time_of, milliseconds_of, time_of, zone_of}
+use Rattle.exif_geotag.specs.UnixTimes.{since_1970}
 use Rattle.exif_geotag.specs.Walks.{TrackView, points_from, track_of}
 
 -- ---- numbers
@@ -138,6 +139,17 @@ a_date_of_exif = refl
 pub no_date_of_exif : exif_time_of (codes "    :  :     :  :  ") (codes "") (codes "") ≡ None
 unfolding exif_time_of milliseconds_of zone_of days_before_month days_before_year
 no_date_of_exif = refl
+
+-- as `date -u -d 2024-05-01T02:30:01Z +%s` has it
+pub a_time_of_a_file : option_and_then since_1970
+    (exif_time_of (codes "2024:05:01 02:30:01") (codes "") (codes "")) ≡ Some 1714530601000
+unfolding exif_time_of milliseconds_of zone_of days_before_month days_before_year
+a_time_of_a_file = refl
+
+pub before_1970 : option_and_then since_1970
+    (exif_time_of (codes "1969:12:31 23:59:59") (codes "") (codes "")) ≡ None
+unfolding exif_time_of milliseconds_of zone_of days_before_month days_before_year
+before_1970 = refl
 
 -- ---- white space
 

@@ -2,6 +2,7 @@ pub mod Erasing
 pub mod Located
 pub mod Relocating
 pub mod Replaced
+pub mod SpotValues
 pub mod Spots
 pub mod Stamps
 pub mod Between

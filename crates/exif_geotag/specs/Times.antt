@@ -1,5 +1,5 @@
 -- Times (ISO 8601-1, 5.4; XML Schema Part 2, 3.2.7), as milliseconds of UTC.
-use Rattle.std.specs.Prelude.{ℕ, ◌+◌, ◌*◌, ◌-◌, ◌==◌, ◌&&◌, ◌||◌, nat_lt, Bool, if◌then◌else◌, List, [], ◌∷◌, length, drop, take, slice_index, Option, Some, None}
+use Rattle.std.specs.Prelude.{ℕ, ◌+◌, ◌*◌, ◌==◌, ◌&&◌, ◌||◌, nat_lt, Bool, true, if◌then◌else◌, List, [], ◌∷◌, length, drop, take, slice_index, Option, Some, None}
 use Rattle.std.specs.Char.{is_ascii_digit}
 use Rattle.std.specs.Option.{option_and_then, option_map}
 use Rattle.exif_locations.specs.XmpScans.{run}
@@ -42,6 +42,13 @@ is_zone zone =
 unfoldable pub zone_of : List ℕ → Option ℕ
 zone_of zone =
     if is_zone zone then Some ((two_at zone 1 * 60 + two_at zone 4) * 60000) else None
+
+-- whether a text is an offset from UTC
+abbrev pub is_offset : List ℕ → Bool
+is_offset text =
+    if (slice_index text 0 == 43) || (slice_index text 0 == 45) then is_zone text
+    else (if ((slice_index text 0 == 90) || (slice_index text 0 == 122)) && (length text == 1)
+    then true else length text == 0)
 
 -- a time of a zone, in UTC; without a zone it is one of UTC
 abbrev pub zoned : ℕ → List ℕ → Option ℕ

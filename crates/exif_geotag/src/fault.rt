@@ -26,7 +26,10 @@ impl fmt::Display for TrackFault {
                 f.write_str("1 point without a time or a location was skipped")
             }
             TrackFault::Skipped(count) => {
-                write!(f, "{count} points without a time or a location were skipped")
+                write!(
+                    f,
+                    "{count} points without a time or a location were skipped"
+                )
             }
             TrackFault::CutOff(Some(last)) => {
                 write!(f, "the file is cut off; the track is used up to {last}")

@@ -1,7 +1,7 @@
 //! Times (ISO 8601-1, 5.4; XML Schema Part 2, 3.2.7), as milliseconds of UTC.
 
 ghost use Rattle.std.specs.Prelude.{◌≡◌, ◌+◌, ◌<◌, ◌≤◌, ◌^◌, length, IfSome};
-ghost use Rattle.exif_geotag.specs.Times.{date_time_of, digits_len, ended, exif_time_of, fraction_len, is_split, milliseconds_of, thousandths_of, time_of, zone_of, zoned};
+ghost use Rattle.exif_geotag.specs.Times.{date_time_of, digits_len, ended, exif_time_of, fraction_len, is_offset, is_split, milliseconds_of, thousandths_of, time_of, zone_of, zoned};
 
 use crate::number::{below, fraction_of};
 use exif_datetime::{is_day, is_time, seconds_of};
@@ -78,6 +78,20 @@ fn zone_of(zone: &[u8]) -> Option<u64>
         Some((u64::from(hours) * 60 + u64::from(minutes)) * MINUTE)
     } else {
         None
+    }
+}
+
+/// Whether a text is an offset from UTC: `+hh:mm`, `-hh:mm`, `Z`, `z` or nothing, with hours below
+/// 24 and minutes below 60. With such an offset [`exif_time_of`] has a time for each date from the
+/// year 1 on, and with any other text it has none.
+#[tactic(auto, unfolding(crate::specs::Times::zone_of))]
+pub fn is_offset(text: &[u8]) -> bool
+    ensures { result ≡ is_offset text.now }
+{
+    match byte_at(text, 0) {
+        b'+' | b'-' => zone_of(text).is_some(),
+        b'Z' | b'z' if text.len() == 1 => true,
+        _ => text.is_empty(),
     }
 }
 

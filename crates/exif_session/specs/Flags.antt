@@ -31,7 +31,7 @@ form_by json = if json then Json else Lines
 -- the date of a name, if it is one
 abbrev pub tag_or_unknown : Option DateTag → Result (Option DateTag) UnknownDate
 tag_or_unknown (Some tag) = Ok (Some tag)
-tag_or_unknown None = Err (record { })
+tag_or_unknown None = Err (record {})
 
 -- the date that gives new names, if one is named
 abbrev pub date_tag_by : Option (List ℕ) → Result (Option DateTag) UnknownDate

@@ -4,4 +4,6 @@ pub mod Flags
 pub mod Found
 pub mod Naming
 pub mod Scrubs
+pub mod Thumbnails
 pub mod Uses
+pub mod Wished

@@ -1,5 +1,12 @@
 -- What a command requires of a file, and what became of one.
-use Rattle.std.specs.Prelude.{Bool, true, false, not, Option, None, Some}
+use Rattle.std.specs.Prelude.{ℕ, ◌==◌, Bool, true, false, not, List, length, Option, None, Some}
+use Rattle.exif_decisions.specs.Endings.{ending_in}
+use Rattle.exif_decisions.specs.Found.{class_for}
+use Rattle.exif_decisions.specs.Paths.{name_of}
+use Rattle.exif_decisions.specs.Unsupported.{unsupported}
+use Rattle.exif_decisions.specs.declared.found.Found.{Found}
+use Rattle.exif_decisions.specs.declared.found.Found.TheVariants as found
+use Rattle.exif_formats.specs.Formats.{format_in}
 use Rattle.exif_formats.specs.declared.format.PictureFormat.{PictureFormat}
 use Rattle.exif_formats.specs.declared.format.PictureFormat.TheVariants.{Tiff, Jpeg, Heif, WebP, Png, JpegXl, Raf, Orf, Rw2, Cr3}
 use Rattle.exif_session.specs.declared.inputs.Use.{Use}
@@ -28,6 +35,14 @@ abbrev pub serves : Option PictureFormat → Use → Bool
 serves None wanted = false
 serves (Some format) Fields = true
 serves (Some format) Parts = has_parts format
+
+-- what is done with a file that was found in a folder, by its first bytes, if they can be read, and
+-- its path: one that can't be read is processed, which reports that
+abbrev pub found_for : Option (List ℕ) → List ℕ → Use → Found
+found_for None path wanted = found.Picture
+found_for (Some head) path wanted =
+    class_for (serves (format_in head) wanted) (length head == 0) (unsupported head)
+    (ending_in (name_of path))
 
 -- what a task requires of a picture: changes and checks need its parts
 abbrev pub use_for : Task → Use

@@ -58,7 +58,7 @@ pub fn exif_if_any(rt: &HostRuntime, path: &str) -> Result<Option<Exif>, Error> 
 
 // What was read of a picture, where one without Exif data was read, too.
 fn exif_found(read: Result<Exif, Error>) -> Result<Option<Exif>, Error>
-    ensures { result ≡ exif_found read }
+    ensures { result ≡ exif_found read.entry }
 {
     match read {
         Ok(exif) => Ok(Some(exif)),

@@ -10,9 +10,10 @@ use crate::console::Console;
 use crate::notes::NoteLine;
 use crate::request::Change;
 use crate::session::{Item, Session, Stop};
+use crate::wishes::in_folder;
 use exif::Sink;
 use exif_change::{Left, Note, Refusal};
-use exif_decisions::{Counts, Escaped, Outcome, name_of, slash_after};
+use exif_decisions::{Counts, Escaped, Outcome, name_of};
 use exif_files::{
     Failure, HostFiles, Keeping, Report, Reporter, WriteError, change_all, folder_of,
 };
@@ -127,11 +128,7 @@ pub fn absolute_of(rt: &HostRuntime, path: &str) -> Result<String, AllocError> {
     }
     let (folder, name) = (folder_of(path), name_of(path));
     match fs::canonicalize(rt, folder) {
-        Ok(found) if !name.is_empty() => {
-            let folder = found.as_path().as_str();
-            let slash = slash_after(folder);
-            format!(in alloc; "{folder}{slash}{name}")
-        }
+        Ok(found) if !name.is_empty() => { in_folder(alloc, found.as_path().as_str(), name) }
         _ => String::from_str(alloc, path),
     }
 }

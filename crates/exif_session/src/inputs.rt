@@ -1,9 +1,9 @@
 //! Files as they are read: a file that seeks costs what is read of it, anything else is taken into
 //! memory.
 
-ghost use Rattle.std.specs.Prelude.{◌≡◌};
+ghost use Rattle.std.specs.Prelude.{◌≡◌, option_map};
 ghost use Rattle.exif_formats.specs.Formats.{format_in};
-ghost use Rattle.exif_session.specs.Uses.{has_parts, serves};
+ghost use Rattle.exif_session.specs.Uses.{found_for, has_parts, serves};
 
 use exif::{Counted, Error, Seekable};
 use exif_containers::container::SNIFF_LEN;
@@ -88,17 +88,23 @@ pub fn found_in_folder(rt: &HostRuntime, path: &str, wanted: Use) -> Found {
         Err(cause) => Err(cause),
     };
     match head {
-        Ok(head) => {
-            let head = head.as_slice();
-            let ending = ending_of(name_of(path));
-            found_of(
-                is_supported(head, wanted),
-                head.is_empty(),
-                unsupported_of(head),
-                ending,
-            )
-        }
-        Err(_cause) => Found::Picture,
+        Ok(head) => found_by(Some(head.as_slice()), path, wanted),
+        Err(_cause) => found_by(None, path, wanted),
+    }
+}
+
+// The same by its first bytes, if they can be read.
+fn found_by(head: Option<&[u8]>, path: &str, wanted: Use) -> Found
+    ensures { result ≡ found_for (option_map (λ bytes. bytes.now) head.entry) path.now wanted }
+{
+    match head {
+        Some(head) => found_of(
+            is_supported(head, wanted),
+            head.is_empty(),
+            unsupported_of(head),
+            ending_of(name_of(path)),
+        ),
+        None => Found::Picture,
     }
 }
 

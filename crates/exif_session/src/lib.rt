@@ -20,6 +20,7 @@ mod scrubbing;
 mod session;
 mod stamps;
 mod thumbnails;
+mod wishes;
 
 pub use change_out::change_into;
 pub use choosing::{exif_if_any, exif_of};
@@ -41,4 +42,5 @@ pub use request::{
 pub use scrubbing::{ScrubOption, ScrubOptions};
 pub use session::{Item, Session, Stop};
 pub use stamps::{FileStamp, stamp_of};
-pub use thumbnails::thumbnail_of;
+pub use thumbnails::{jpeg_of, thumbnail_of};
+pub use wishes::{folder_for, in_folder, sidecars_of, wish_for};

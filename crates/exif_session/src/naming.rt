@@ -105,10 +105,7 @@ fn facts_in<'a>(exif: &'a Exif, moment: Option<Moment>, stem: &'a str) -> Facts<
 }
 
 // A name and its date, unless it is one that the program gives files of its own.
-fn settled(
-    moment: Option<Moment>,
-    name: Result<String, Missing>,
-) -> Result<NewName, Missing>
+fn settled(moment: Option<Moment>, name: Result<String, Missing>) -> Result<NewName, Missing>
     ensures { ok_as new_name_of result ≡ settled moment (ok_as string_bytes name) }
 {
     match name {

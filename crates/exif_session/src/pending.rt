@@ -105,8 +105,10 @@ impl Pending {
         match look_of(path.as_str(), is_named) {
             Look::Input => return Ok(Some(Next::Input)),
             Look::Unreadable => {
-                let cause =
-                    io::Error::new(ErrorKind::InvalidFilename, "the name is not valid UTF-8");
+                let cause = io::Error::new(
+                    ErrorKind::InvalidFilename,
+                    "the name is not valid UTF-8",
+                );
                 return Ok(Some(Next::Failed(path, cause)));
             }
             Look::Path => {}

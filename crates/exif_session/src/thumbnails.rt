@@ -1,14 +1,62 @@
 //! The thumbnail of a picture, where its file has it.
 
+ghost use Rattle.std.specs.Prelude.{◌≡◌};
+ghost use Rattle.exif_change.specs.Refusals.{Answers};
+ghost use Rattle.exif_session.specs.Thumbnails.{jpeg_of, kept_in};
+
 use crate::inputs::{Input, open};
 use exif::{Counted, Error, Exif, Seekable};
-use exif_change::{ENTRY_LIMIT, thumbnail};
+use exif_change::{ENTRY_LIMIT, Refusal, thumbnail};
 use exif_formats::raw::cr3::find_thumbnail;
 use exif_formats::{Options, Picture, PictureFormat, read_picture};
 use exif_report::found_of;
 use exif_thumbnails::{Place, Thumbnail, place_of, read_place, read_thumbnail_coding};
 use std::alloc::Global;
 use std::io::{Seek, SeekFrom};
+
+// Where a picture has its thumbnail.
+#[derive(Clone, Copy)]
+enum Kept {
+    // in a box of its own
+    Box,
+    // where its Exif data, which are the file, say
+    File,
+    // as an item of the file, or in its Exif data
+    Items,
+    // in its Exif data
+    Data,
+}
+
+// Where a picture of a format has its thumbnail.
+fn kept_in(format: Option<PictureFormat>) -> Kept
+    ensures { result ≡ kept_in format }
+{
+    match format {
+        Some(PictureFormat::Cr3) => Kept::Box,
+        Some(PictureFormat::Tiff | PictureFormat::Orf | PictureFormat::Rw2) => Kept::File,
+        Some(PictureFormat::Heif) => Kept::Items,
+        _ => Kept::Data,
+    }
+}
+
+/// The bytes of a thumbnail, or why there are none.
+pub fn jpeg_of(found: Option<Thumbnail>) -> Result<Vec<u8>, Refusal>
+    ensures { Answers (λ jpeg. jpeg.items) result (jpeg_of found) }
+{
+    match found {
+        Some(Thumbnail::Jpeg(jpeg)) => Ok(jpeg),
+        Some(Thumbnail::TooLong) => Err(Refusal::Reading(Error::InvalidFormat(
+            "The thumbnail is longer than 1 MiB",
+        ))),
+        Some(Thumbnail::CutOff) => Err(Refusal::Reading(Error::InvalidFormat(
+            "The thumbnail is cut off",
+        ))),
+        Some(Thumbnail::Item(_coding)) => Err(Refusal::Reading(Error::InvalidFormat(
+            "The thumbnail is an item of the HEIF file, which is not read",
+        ))),
+        None => Err(Refusal::NoThumbnail),
+    }
+}
 
 /// The thumbnail of a picture, if it has one: that in its Exif data, which is read from the file
 /// where it is behind what was held of them, and that in a CR3 file's own box. Of one that is an
@@ -17,14 +65,14 @@ pub fn thumbnail_of(rt: &HostRuntime, path: &str) -> Result<Option<Thumbnail>, E
     let alloc = rt.alloc();
     let input = open(rt, path)?;
     let picture = picture_in(alloc, &input)?;
-    match picture.format {
-        Some(PictureFormat::Cr3) => Ok(in_cr3(alloc, &input)?.map(Thumbnail::Jpeg)),
-        Some(PictureFormat::Tiff | PictureFormat::Orf | PictureFormat::Rw2) => {
+    match kept_in(picture.format) {
+        Kept::Box => Ok(in_cr3(alloc, &input)?.map(Thumbnail::Jpeg)),
+        Kept::File => {
             let (exif, _faults) = found_of(alloc, picture.answer)?;
             in_tiff(alloc, &input, &exif)
         }
-        Some(PictureFormat::Heif) => in_heif(alloc, &input, picture.answer),
-        _ => {
+        Kept::Items => in_heif(alloc, &input, picture.answer),
+        Kept::Data => {
             let (exif, _faults) = found_of(alloc, picture.answer)?;
             in_data(alloc, &exif)
         }

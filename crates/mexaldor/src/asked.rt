@@ -114,5 +114,10 @@ fn check_of<'a>(
 ) -> Result<Result<Request<'a>, Wrong>, AllocError> {
     let files = words_of(alloc, matches)?;
     let strict = matches.get_flag("strict");
-    request(alloc, Task::Check(form_by(matches.get_flag("json")), strict), matches, files)
+    request(
+        alloc,
+        Task::Check(form_by(matches.get_flag("json")), strict),
+        matches,
+        files,
+    )
 }

@@ -6,9 +6,7 @@ use clap::ArgMatches;
 use exif_change::{Assignment, ClockShift};
 use exif_copy::{Selection, Shape};
 use exif_decisions::{Escaped, is_assignment};
-use exif_session::{
-    Change, Copying, Request, ScrubOption, ScrubOptions, Target, Task, dates_by,
-};
+use exif_session::{Change, Copying, Request, ScrubOption, ScrubOptions, Target, Task, dates_by};
 use std::alloc::{AllocError, Global};
 
 /// Another name of `--locations-only`.

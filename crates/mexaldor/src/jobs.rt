@@ -4,7 +4,7 @@ use crate::selection::{Wrong, keeping_of, reading_of, request, takes_many, words
 use crate::tags::tags_in;
 use clap::ArgMatches;
 use exif_decisions::Escaped;
-use exif_geotag::{DEFAULT_GAP, exif_time_of, gap_in};
+use exif_geotag::{DEFAULT_GAP, gap_in, is_offset};
 use exif_rename::{DateTag, Pattern};
 use exif_session::{
     Cataloguing, Geotagging, Renaming, Request, Table, Task, cells_by, date_tag_by, separator_by,
@@ -128,7 +128,7 @@ fn offset_of<'a>(
     matches: &ArgMatches<'a>,
 ) -> Result<Result<&'a str, Wrong>, AllocError> {
     let zone = matches.get_str("offset").unwrap_or("");
-    if !zone.is_empty() && exif_time_of(b"2000:01:01 00:00:00", b"", zone.as_bytes()).is_none() {
+    if !is_offset(zone.as_bytes()) {
         let zone = Escaped(zone);
         return Ok(Err(format!(in alloc; "invalid offset '{zone}'; expected e.g. +02:00")?));
     }
