@@ -32,8 +32,8 @@ pub use exif_base::{Counted, Items, ReadFault, ReadSeek, Seekable, Sink, Source}
 pub use exif_containers::container::Format;
 pub use exif_datetime::DateTime;
 pub use exif_reader::{Reader, Sniffed};
-pub use exif_tiff::parse_exif;
 pub use exif_segments::get_exif_attr_from_jpeg;
+pub use exif_tiff::parse_exif;
 pub use exif_types::{
     Context, Decimal, Display, DisplayValue, DisplayValueUnit, Error, Exif, Field, FieldType,
     Fields, In, PartialResult, ProvideUnit, Rational, SRational, Tag, UIntIter, UIntValue, Value,
