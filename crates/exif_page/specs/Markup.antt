@@ -1,5 +1,5 @@
--- The fixed parts of a page. The rules of its style and the lines of its script are those of the
--- program, which are inert.
+-- The fixed parts of a page. No standard gives the rules of its style and the lines of its script:
+-- they are those of the program, and a law says that they are inert.
 use Rattle.std.specs.Prelude.{ℕ, List, [], ◌∷◌, ◌++◌, Bool, ◌||◌, not, nat_eq, codes}
 use Rattle.std.specs.List.{list_any, starts_with}
 use Rattle.exif_page.specs.declared.markup.TheConstants.{SCRIPT, STYLE}
