@@ -115,8 +115,8 @@ version_answer None = Err error.OtherTables
 abbrev pub table_answer : List ℕ → Result (Unit {0}) CatalogError
 table_answer text = if bytes_eq text (create_text columns) then Ok tt else Err error.OtherTables
 
--- ---- what is known of a row: its path, the seven parts of its stamp, its mark, and whether it
--- lacks a hash
+-- ---- what is known of a row, by its cells: its path, the seven parts of its stamp, its mark, and
+-- whether it lacks a hash
 
 -- a number that is not negative
 abbrev pub amount_of : Option ℤ → Option ℕ
@@ -126,43 +126,44 @@ amount_of None = None
 
 -- that of a column
 abbrev pub amount_at : Row → ℕ → Result (Option ℕ) CatalogError
-amount_at row at = and_then (λ n. Ok (amount_of n)) (number_at row at)
+amount_at cells at = and_then (λ n. Ok (amount_of n)) (number_at cells at)
 
 -- the stamp
 abbrev pub stamp_at : Row → Result (Option Stamp) CatalogError
-stamp_at row =
+stamp_at cells =
     and_then (λ size. and_then (λ modified. and_then (λ modified_ns. and_then (λ changed.
     and_then (λ changed_ns. and_then (λ device. and_then (λ inode.
     Ok (stamp_from (size ∷ modified ∷ modified_ns ∷ changed ∷ changed_ns ∷ device ∷ inode ∷ [])))
-    (amount_at row 7)) (amount_at row 6)) (amount_at row 5)) (amount_at row 4)) (amount_at row 3))
-    (amount_at row 2)) (amount_at row 1)
+    (amount_at cells 7)) (amount_at cells 6)) (amount_at cells 5)) (amount_at cells 4))
+    (amount_at cells 3)) (amount_at cells 2)) (amount_at cells 1)
 
 -- all of it
 abbrev pub known_at : Row → Bool → Result Known CatalogError
-known_at row needs_hash =
+known_at cells needs_hash =
     and_then (λ stamp. and_then (λ removed. and_then (λ lacks_hash.
     Ok (known_from stamp removed lacks_hash needs_hash))
-    (number_at row 9)) (number_at row 8)) (stamp_at row)
+    (number_at cells 9)) (number_at cells 8)) (stamp_at cells)
 
 -- its path, and all of it
 abbrev pub entry_at : Row → Bool → Result (List ℕ × Known) CatalogError
-entry_at row needs_hash =
-    and_then (λ path. and_then (λ known. Ok (path, known)) (known_at row needs_hash)) (text_at row 0)
+entry_at cells needs_hash =
+    and_then (λ path. and_then (λ known. Ok (path, known)) (known_at cells needs_hash))
+    (text_at cells 0)
 
 -- ---- the hashes of rows
 
 -- what a row's picture may be of a move, with its path and its hash, if it may be something
 abbrev pub hashed_as : Option Side → List ℕ → Row
     → Result (Option (Side × List ℕ × List ℕ)) CatalogError
-hashed_as None path row = Ok None
-hashed_as (Some side) path row =
-    and_then (λ hash. Ok (Some (side, path, hash))) (text_at row 1)
+hashed_as None path cells = Ok None
+hashed_as (Some side) path cells =
+    and_then (λ hash. Ok (Some (side, path, hash))) (text_at cells 1)
 
 -- the same by what was known of it
 abbrev pub hashed_at : (List ℕ → Option Known) → List (Bor (List ℕ)) → Row
     → Result (Option (Side × List ℕ × List ℕ)) CatalogError
-hashed_at known roots row =
-    and_then (λ path. hashed_as (side_of (known path) path roots) path row) (text_at row 0)
+hashed_at known roots cells =
+    and_then (λ path. hashed_as (side_of (known path) path roots) path cells) (text_at cells 0)
 
 -- its parts
 abbrev pub parts_of : Side × Hashed → Side × List ℕ × List ℕ

@@ -60,7 +60,8 @@ fn push_cell(
     column: usize,
 ) -> Result<(), CatalogError>
     ensures cell { OnOk result (AddsCell row.now column line.old.items line.new.items) }
-    ensures memory { column < length row.now → IfErr result (λ e. e ≡ CatalogError.OutOfMemory) }
+    ensures memory { column < length row.now
+        → IfErr result (λ e. e ≡ CatalogError.OutOfMemory) }
 {
     push_gap(line, column)?;
     push_value(alloc, line, row.get_ref(column)?)?;

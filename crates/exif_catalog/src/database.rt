@@ -52,10 +52,12 @@ pub(crate) fn prepare<S: Alter>(
         → IfOk result (λ s. s.text ≡ sql.now) }
     ensures same { HasCleanDisk (state S.Store database.new) → OnOk result
         (IsUnchanged (state S.Store database.old) (state S.Store database.new)) }
-    ensures refused { HasCleanDisk (state S.Store database.new) → IfErr result (λ e. (why : Error)
+    ensures refused { HasCleanDisk (state S.Store database.new)
+        → IfErr result (λ e. (why : Error)
         × (e ≡ database_error why) × ((params : SqlRow) → IsNotRun (state S.Store database.old)
         (state S.Store database.new) sql.now params why)) }
-    ensures survives { Survives (state S.Store database.old) (state S.Store database.new) (λ _. ⊥) }
+    ensures survives { Survives (state S.Store database.old)
+        (state S.Store database.new) (λ _. ⊥) }
 {
     Ok(database.prepare(sql)?)
 }
@@ -88,7 +90,8 @@ pub(crate) fn number_at(row: &Row, column: usize) -> Result<Option<i64>, Catalog
 
 // The texts in the first column of rows.
 fn texts_of(alloc: Global, rows: &[Row]) -> Result<Vec<String>, CatalogError>
-    ensures texts { IfOk result (λ texts. texts_at rows.now ≡ Ok (map string_bytes texts.items)) }
+    ensures texts { IfOk result
+        (λ texts. texts_at rows.now ≡ Ok (map string_bytes texts.items)) }
     ensures refused { IfErr result (λ e. (e ≡ CatalogError.OutOfMemory)
         ⊎ (texts_at rows.now ≡ Err e)) }
 {

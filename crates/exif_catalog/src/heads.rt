@@ -42,7 +42,8 @@ fn kind_of(head: &[u8]) -> FileKind
 /// What the system found at a path, if it found something.
 pub(crate) fn if_found(found: io::Result<Metadata>) -> io::Result<Option<Metadata>>
     ensures found { IfOk found (λ it. result ≡ Ok (Some it)) }
-    ensures absent { IfErr found (λ e. error_kind e ≡ ErrorKind.NotFound → result ≡ Ok None) }
+    ensures absent { IfErr found
+        (λ e. error_kind e ≡ ErrorKind.NotFound → result ≡ Ok None) }
     ensures unknown { IfErr found (λ e. error_kind e ≢ ErrorKind.NotFound → result ≡ Err e) }
 {
     match found {

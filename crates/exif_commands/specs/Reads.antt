@@ -20,7 +20,8 @@ outcome_read (Err (error.UnexpectedValue text)) = Refused
 outcome_read (Err error.OutOfMemory) = Refused
 
 -- what was read, and how many faults it has: without Exif data there is nothing, and no fault
-abbrev pub with_faults : Result (ExifContents × ℕ) Failure → Result (Option ExifContents × ℕ) Failure
+abbrev pub with_faults : Result (ExifContents × ℕ) Failure
+    → Result (Option ExifContents × ℕ) Failure
 with_faults (Ok (exif, faults)) = Ok (Some exif, faults)
 with_faults (Err (error.NotFound what)) = Ok (None, 0)
 with_faults (Err (error.PartialResult partial)) = Err (error.PartialResult partial)
