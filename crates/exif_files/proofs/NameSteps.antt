@@ -1,12 +1,12 @@
 -- What the calls make of the states by which a file gets a name that nothing has.
-use Rattle.std.proofs.Common.{◌≡◌, ◌≢◌, ◌⊎◌, ◌≤◌, ℕ, List, [], ◌∷◌, Bool, true, false, subst, None, Some, sym, ap, refl, ◌∙◌, inl, inr, Result, Ok, Err, OnOk, OnErr, arith, is_err}
+use Rattle.std.proofs.Common.{◌≡◌, ◌≢◌, ◌⊎◌, ◌≤◌, ℕ, List, [], true, subst, None, sym, ap, refl, ◌∙◌, inl, inr, Result, Ok, Err, OnOk, OnErr, arith}
 use Rattle.std.specs.Prelude.{⊤}
-use Rattle.exif_files.specs.States.{Entry, State, Holds, Elsewhere, IsUnchanged, Now, Run}
+use Rattle.exif_files.specs.States.{State, Holds, Elsewhere, IsUnchanged, Now, Run}
 use Rattle.exif_files.specs.Steps.{Creates, Links, Renames, Removes, Moves, Does, count_after}
 use Rattle.exif_files.specs.Written.{FailedTwice}
 use Rattle.exif_files.specs.Parts.{FailsOrNot}
-use Rattle.exif_files.specs.NewNames.{IsThere, IsNamedTwice, IsRenamed, IsRenaming, IsNotRenamed}
-use Rattle.exif_files.proofs.Runs.{run_none, run_one, run_step, run_stay, run_weaker, moves_now, now_any}
+use Rattle.exif_files.specs.NewNames.{IsGone, IsThere, IsNamedTwice, IsRenamed, IsRenaming, IsNotRenamed}
+use Rattle.exif_files.proofs.Runs.{run_begin, run_none, run_one, run_then, run_step, run_stay, run_weaker, moves_now, now_any}
 use Rattle.exif_files.proofs.Counts.{same_or_other}
 
 module _ (from to : List ℕ) (failed : Type 0) where
@@ -35,6 +35,24 @@ module _ (from to : List ℕ) (failed : Type 0) where
   run_named apart a b c m m' =
       run_step (Removes from) (run_linked a b m) m' (λ s t x. x)
       (λ s t u x y. inr (inr (renamed_by_link apart s t u x y))) (renamed_by_link apart)
+
+  -- the new name was given, and the old one is gone
+  given_and_gone : (s t u : State) → Links from to s t → (u ≡ t) × IsGone from t → IsRenamed from to s u
+  given_and_gone s t u x (same, gone) =
+      let P : State → Type 0 = λ w. IsRenamed from to s w in
+      subst P (sym same) (record { free = x.free; file = x.file; gone = gone; others = λ n ne ne'. x.others n ne' })
+
+  given_still : (s t u : State) → Links from to s t → u ≡ t → IsRenaming from to failed s u
+  given_still s t u x same =
+      let P : State → Type 0 = λ w. IsRenaming from to failed s w in
+      subst P (sym same) (inr (inl (named_twice s t x)))
+
+  -- the old name was removed, or is gone
+  pub run_named_or_gone : (apart : from ≢ to) (a b c : List State) → Moves (Links from to) a b → Moves (Removes from) b c ⊎ ((c ≡ b) × Now b (IsGone from)) → Run (IsRenaming from to failed) (IsRenamed from to) a c
+  run_named_or_gone apart a b c m (inl m') = run_named apart a b c m m'
+  run_named_or_gone apart a b c m (inr (same, gone)) =
+      run_then (run_linked a b m) (run_stay (run_begin (λ s t. t ≡ s) (IsGone from) b gone) same)
+      (λ s t x. x) given_still given_and_gone
 
   pub run_not_named : (twice twice' : Type 0) → (twice → twice') → (a b c : List State) → Moves (Links from to) a b → Moves (Removes to) b c ⊎ ((c ≡ b) × twice)
       → Run (IsRenaming from to failed) (IsNotRenamed from to failed twice') a c

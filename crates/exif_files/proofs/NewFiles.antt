@@ -1,6 +1,5 @@
 -- What the calls make of the states by which a new file is made.
-use Rattle.std.proofs.Common.{◌≡◌, ◌≢◌, ◌⊎◌, ℕ, List, [], ◌∷◌, ◌++◌, Bool, subst, None, Some, true, false, sym, ap, ◌∙◌, inl, inr, Result, Ok, Err, OnOk, OnErr}
-use Rattle.std.specs.Prelude.{IsTrue, ◌↔◌}
+use Rattle.std.proofs.Common.{◌≡◌, ◌≢◌, ◌⊎◌, ℕ, List, [], ◌∷◌, ◌++◌, subst, None, Some, true, sym, ap, ◌∙◌, inl, inr, Result, Ok, Err, OnOk, OnErr}
 use Rattle.exif_files.specs.States.{Entry, State, Holds, Elsewhere, Now, Run}
 use Rattle.exif_files.specs.Steps.{Creates, Syncs, Removes, Settles, Moves, Does}
 use Rattle.exif_files.specs.Names.{IsHidden}

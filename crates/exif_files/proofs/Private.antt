@@ -1,6 +1,5 @@
 -- Runs that begin with a file that its owner alone may use.
 use Rattle.std.proofs.Common.{◌≡◌, List, [], ◌∷◌, ◌∙◌, ap, subst, inl, inr, ℕ, Result, Ok, Err}
-use Rattle.std.specs.Prelude.{◌≢◌}
 use Rattle.exif_files.specs.States.{State, Run}
 use Rattle.exif_files.specs.Names.{IsHidden}
 use Rattle.exif_files.specs.Steps.{BeginsWith, Creates, CreatesPrivate, Does, Moves}

@@ -6,6 +6,10 @@ use Rattle.exif_files.specs.States.{State, Holds, Elsewhere, ElsewhereOfTwo, IsU
 abbrev pub IsThere : List ℕ → State → Type 0
 IsThere name s = s.at name ≢ None
 
+-- nothing has a name
+abbrev pub IsGone : List ℕ → State → Type 0
+IsGone name s = s.at name ≡ None
+
 -- the file has the other name, which nothing had, and its own is gone
 pub record IsRenamed (from to : List ℕ) (s t : State) : Type 0 where
   pub free : s.at to ≡ None

@@ -1,11 +1,11 @@
 //! The file system of the host. What its files hold is not known to contracts.
 
-ghost use Rattle.std.specs.Prelude.{◌≡◌, ◌≤◌, ◌<◌, [], IfOk, length};
+ghost use Rattle.std.specs.Prelude.{◌≡◌, ◌≢◌, ◌≤◌, ◌<◌, [], IfOk, IsTrue, length};
 ghost use Rattle.exif_files.specs.Steps.{count_after};
 
 use crate::system::FileSystem;
 use std::alloc::Global;
-use std::fs::{self, File, FileTimes, OpenOptions};
+use std::fs::{self, File, FileTimes, Metadata, OpenOptions};
 use std::io::{self, ErrorKind, Write};
 use std::os::unix::fs::{MetadataExt, OpenOptionsExt, fchown};
 use std::path::Path;
@@ -253,6 +253,34 @@ impl<'r> HostFiles<'r> {
         }
     }
 
+    // What has a name itself, if something does.
+    fn try_look(&self, name: &str) -> io::Result<Option<Metadata>> {
+        match fs::symlink_metadata(self.rt, name) {
+            Ok(found) => Ok(Some(found)),
+            Err(error) if error.kind() == ErrorKind::NotFound => Ok(None),
+            Err(error) => Err(error),
+        }
+    }
+
+    // Whether two names are those of one file. Where a folder is a link, two paths can lead to one
+    // name, which the paths without links tell.
+    fn try_is_one_file(&self, name: &str, other: &str) -> io::Result<bool>
+        ensures apart { IfOk result (λ one. IsTrue one → name.now ≢ other.now) }
+    {
+        if name == other {
+            return Ok(false);
+        }
+        let (Some(a), Some(b)) = (self.try_look(name)?, self.try_look(other)?) else {
+            return Ok(false);
+        };
+        let is_one = a.is_file() && a.dev() == b.dev() && a.ino() == b.ino();
+        if !is_one || a.nlink() < 2 {
+            return Ok(false);
+        }
+        let path = fs::canonicalize(self.rt, name)?;
+        Ok(path.as_path() != fs::canonicalize(self.rt, other)?.as_path())
+    }
+
     fn try_link(&self, source: &str, name: &str) -> io::Result<bool> {
         match fs::hard_link(self.rt, source, name) {
             Ok(()) => Ok(true),
@@ -279,6 +307,12 @@ impl<'r> FileSystem for HostFiles<'r> {
 
     fn is_free(&mut self, name: &str) -> io::Result<bool> {
         let result = self.try_is_free(name);
+        self.count(result.is_err());
+        result
+    }
+
+    fn is_one_file(&mut self, name: &str, other: &str) -> io::Result<bool> {
+        let result = self.try_is_one_file(name, other);
         self.count(result.is_err());
         result
     }

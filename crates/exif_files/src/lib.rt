@@ -28,4 +28,4 @@ pub use power::{loss_law, new_loss_law};
 pub use replacing::replace;
 pub use running::{Reporter, change_all};
 pub use system::FileSystem;
-pub use taking::move_new;
+pub use taking::{finish_move, move_new};

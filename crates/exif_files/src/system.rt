@@ -35,6 +35,15 @@ pub trait FileSystem {
         ensures same { states self.new ≡ states self.old }
         ensures count { failures self.new ≡ count_after (is_err result) (failures self.old) };
 
+    /// Whether two names are those of one file, which has both. Two ways to write one name are not,
+    /// and neither are links to a name.
+    fn is_one_file(&mut self, name: &str, other: &str) -> io::Result<bool>
+        ensures one { IfOk result (λ one. IsTrue one → Now (states self.old)
+            (λ s. (s.at name.now ≡ s.at other.now) × IsThere other.now s)) }
+        ensures apart { IfOk result (λ one. IsTrue one → name.now ≢ other.now) }
+        ensures same { states self.new ≡ states self.old }
+        ensures count { failures self.new ≡ count_after (is_err result) (failures self.old) };
+
     /// Makes a file without bytes if the name is free, and answers whether it was. Those may use
     /// the file whom the mode names, but for whom the system's mask leaves out.
     fn create(&mut self, name: &str, mode: u32) -> io::Result<bool>

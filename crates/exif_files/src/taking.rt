@@ -1,9 +1,9 @@
 //! Files that get a name that nothing has, whatever other programs do meanwhile.
 
-ghost use Rattle.std.specs.Prelude.{◌≡◌, ◌≢◌, ◌≤◌, ◌⊎◌, IfErr, OnOk, OnErr, true, ⊤};
+ghost use Rattle.std.specs.Prelude.{◌≡◌, ◌≢◌, ◌≤◌, ◌⊎◌, Ok, IfOk, IfErr, IsTrue, OnOk, OnErr, true, false, ⊤};
 ghost use Rattle.exif_files.specs.States.{Run, Now};
 ghost use Rattle.exif_files.specs.Steps.{Moves, Removes, count_after};
-ghost use Rattle.exif_files.specs.NewNames.{IsThere, IsRenamed, IsRenaming, IsNotRenamed};
+ghost use Rattle.exif_files.specs.NewNames.{IsGone, IsThere, IsRenamed, IsRenaming, IsNotRenamed};
 ghost use Rattle.exif_files.specs.Written.{FailedTwice};
 ghost use Rattle.exif_files.specs.Parts.{FailsOrNot, FailsOnceOrNot};
 ghost use Rattle.exif_files.specs.declared.failure.WriteError.TheVariants.{OutOfMemory, Taken, Crowded, OtherDevice};
@@ -70,26 +70,60 @@ fn may_lack_links(kind: ErrorKind) -> bool {
     )
 }
 
-// Removes the old one of two names of a file; or the new one, where that fails.
+// Removes the old one of two names of a file, unless another program has done so; or the new one,
+// where that fails.
 fn remove_old<F: FileSystem>(files: &mut F, source: &str, name: &str) -> Result<(), WriteError>
     ensures done { OnOk result (Moves (Removes source.now) (F.states files.old)
-        (F.states files.new)) }
+        (F.states files.new) ⊎ ((F.states files.new ≡ F.states files.old)
+        × Now (F.states files.old) (IsGone source.now))) }
     ensures failed { OnErr result (Moves (Removes name.now) (F.states files.old)
         (F.states files.new) ⊎ ((F.states files.new ≡ F.states files.old)
         × FailedTwice (F.failures files.old) (F.failures files.new))) }
-    ensures count { OnOk result (F.failures files.new ≡ F.failures files.old) }
+    ensures count { OnOk result (FailsOnceOrNot (F.failures files.old) (F.failures files.new)) }
     ensures cause { OnErr result
         (count_after true (F.failures files.old) ≤ F.failures files.new) }
     ensures known { IfErr result
         (λ e. (e ≢ OutOfMemory) × (e ≢ Crowded) × (e ≢ Taken) × (e ≢ OtherDevice)) }
 {
-    match files.remove(source) {
-        Ok(()) => Ok(()),
-        Err(error) => {
-            let _ = files.remove(name);
-            Err(WriteError::Io(error))
-        }
+    let Err(error) = files.remove(source) else {
+        return Ok(());
+    };
+    if let Ok(true) = files.is_free(source) {
+        return Ok(());
     }
+    let _ = files.remove(name);
+    Err(WriteError::Io(error))
+}
+
+/// Takes the old one of two names away that a file has, as a move that was cut off has left them,
+/// and answers whether it has both. So [`move_new`] is finished where it was killed between its two
+/// calls.
+///
+/// The file keeps its new name, and every other name what it had. Where the two names are not those
+/// of one file, and after an error, all is as it was.
+pub fn finish_move<F: FileSystem>(
+    files: &mut F,
+    source: &str,
+    name: &str,
+) -> Result<bool, WriteError>
+    ensures begun { IfOk result (λ done. IsTrue done → Now (F.states files.old)
+        (λ s. (s.at source.now ≡ s.at name.now) × IsThere name.now s)) }
+    ensures apart { IfOk result (λ done. IsTrue done → source.now ≢ name.now) }
+    ensures done { IfOk result (λ done. IsTrue done
+        → Moves (Removes source.now) (F.states files.old) (F.states files.new)) }
+    ensures other { result ≡ Ok false → F.states files.new ≡ F.states files.old }
+    ensures failed { OnErr result (F.states files.new ≡ F.states files.old) }
+    ensures cause { OnErr result
+        (count_after true (F.failures files.old) ≤ F.failures files.new) }
+    ensures known { IfErr result
+        (λ e. (e ≢ OutOfMemory) × (e ≢ Crowded) × (e ≢ Taken) × (e ≢ OtherDevice)) }
+    ensures count { OnOk result (F.failures files.new ≡ F.failures files.old) }
+{
+    let is_one = files.is_one_file(source, name).map_err(WriteError::Io)?;
+    if is_one {
+        files.remove(source).map_err(WriteError::Io)?;
+    }
+    Ok(is_one)
 }
 
 // Makes a file without bytes under a new name, and replaces it by the file.

@@ -1,9 +1,9 @@
-use Rattle.std.proofs.Common.{rules, ◌≡◌, ◌≢◌, arith, sym, subst, ℕ}
-use Rattle.exif_files.specs.Steps.{Links, count_after}
+use Rattle.std.proofs.Common.{rules, ◌≡◌, ◌≢◌, arith, subst, ℕ}
+use Rattle.exif_files.specs.Steps.{Links}
 use Rattle.exif_files.specs.Written.{FailedTwice}
 use Rattle.exif_files.proofs.Runs.{ok_at, on_ok, on_err}
 use Rattle.exif_files.proofs.Moving.{moves_if_free}
-use Rattle.exif_files.proofs.NameSteps.{run_named, run_not_named, on_renamed, on_not_renamed, failed_since}
+use Rattle.exif_files.proofs.NameSteps.{run_named_or_gone, run_not_named, on_renamed, on_not_renamed, failed_since}
 use Rattle.exif_files.proofs.taking.move_new.Goals as goal
 
 pub returns-in-Ok-true-clause-done : goal.returns-in-Ok-true-clause-done
@@ -12,7 +12,7 @@ returns-in-Ok-true-clause-done g c =
     let name = c.args.name.now in
     let apart : source ≢ name = search rules in
     let linked = moves_if_free name (Links source name) _ _ c.in-Ok-true.field-0 c.in-Ok-true.field-0-test (ok_at _ c.link.result _ c.in-Ok-true.is c.link.ensures.does.done) in
-    on_ok _ _ c.remove_old.result c.remove_old.ensures.done (λ m. run_named source name _ apart _ _ _ linked m)
+    on_ok _ _ c.remove_old.result c.remove_old.ensures.done (λ m. run_named_or_gone source name _ apart _ _ _ linked m)
 
 pub returns-in-Ok-true-clause-failed : goal.returns-in-Ok-true-clause-failed
 returns-in-Ok-true-clause-failed g c =

@@ -1,4 +1,4 @@
-use Rattle.std.proofs.Common.{rules, ◌≡◌, ◌∙◌, ap, true}
+use Rattle.std.proofs.Common.{◌∙◌, ap, true}
 use Rattle.exif_files.specs.Steps.{Creates, count_after}
 use Rattle.exif_files.proofs.Moving.{moves_if_free}
 use Rattle.exif_files.proofs.NameSteps.{run_replaced_holder, run_holder_undone}
