@@ -24,7 +24,7 @@ pub use nested::root_of;
 pub use order::{Moment, Shot, compare_shots};
 pub use pattern::{DatePart, Fault, Part, Pattern, PatternError};
 pub use plan::{PlanError, plan_names};
-pub use present::{Presence, are_there};
+pub use present::{Held, Presence, are_there, is_begun};
 pub use undo::{Step, parse_line, write_line};
 pub use unused::give_unused;
 pub use wish::{Move, Wish, WishFile, candidate};

@@ -34,6 +34,16 @@ impl Stored {
             times: self.times,
         })
     }
+
+    // Whether two files have the same bytes, mode, owner and times.
+    fn is_alike(&self, other: &Stored) -> bool
+        ensures { IsTrue result → entry self.now ≡ entry other.now }
+    {
+        self.bytes.as_slice() == other.bytes.as_slice()
+            && self.mode == other.mode
+            && self.owner == other.owner
+            && self.times == other.times
+    }
 }
 
 /// What a name has from then on.
@@ -334,6 +344,25 @@ impl MemoryFiles {
         self.is_absent(name)
     }
 
+    // Whether two names have files that nothing tells apart: here a name that a file gets besides
+    // its own has a copy of it.
+    fn try_is_one_file(&mut self, name: &str, other: &str) -> io::Result<bool>
+        ensures one { IfOk result (λ one. IsTrue one → Now (states_of self.old.steps.items)
+            (λ s. (s.at name.now ≡ s.at other.now) × (s.at other.now ≢ None))) }
+        ensures apart { IfOk result (λ one. IsTrue one → name.now ≢ other.now) }
+        ensures same { self.new.steps ≡ self.old.steps }
+        ensures count { self.new.failures ≡ self.old.failures }
+    {
+        self.begin()?;
+        if name == other {
+            return Ok(false);
+        }
+        let (Some(a), Some(b)) = (self.find(name)?, self.find(other)?) else {
+            return Ok(false);
+        };
+        Ok(a.is_alike(&b))
+    }
+
     fn try_read(&mut self, alloc: Global, name: &str) -> io::Result<Vec<u8>>
         ensures bytes { IfOk result (λ bytes. Now (states_of self.old.steps.items)
             (λ s. Holds s name.now (λ f. f.bytes ≡ bytes.items))) }
@@ -369,6 +398,12 @@ impl FileSystem for MemoryFiles {
 
     fn is_free(&mut self, name: &str) -> io::Result<bool> {
         let result = self.try_is_free(name);
+        self.count(result.is_err());
+        result
+    }
+
+    fn is_one_file(&mut self, name: &str, other: &str) -> io::Result<bool> {
+        let result = self.try_is_one_file(name, other);
         self.count(result.is_err());
         result
     }

@@ -4,7 +4,7 @@ ghost use Rattle.std.specs.Prelude.{⊤, ◌≡◌, ◌<◌, ◌+◌, ◌^◌};
 
 use exif_files::{
     Edit, EditError, Edited, Failure, HostFiles, Keeping, Report, Reporter, Status, WriteError,
-    change, change_all, create_new, move_new, replace,
+    change, change_all, create_new, finish_move, move_new, replace,
 };
 use exif_test_support::{MemoryFiles, Stored};
 use std::alloc::Global;
@@ -177,6 +177,23 @@ fn a_file_is_moved_whole_or_not_at_all(rt: HostRuntime) -> Result<(), Fail> {
             "at {calls}"
         );
     }
+    Ok(())
+}
+
+#[test]
+fn a_move_that_was_cut_off_is_finished(rt: HostRuntime) -> Result<(), Fail> {
+    let alloc = rt.alloc();
+    let mut files = MemoryFiles::new(alloc);
+    files.insert("/a.jpg", stored(alloc, OLD)?)?;
+    files.insert("/other.jpg", stored(alloc, NEW)?)?;
+    assert!(rt; files.link("/a.jpg", "/b.jpg")?);
+    assert!(rt; matches!(finish_move(&mut files, "/a.jpg", "/other.jpg"), Ok(false)));
+    assert!(rt; matches!(finish_move(&mut files, "/a.jpg", "/a.jpg"), Ok(false)));
+    assert!(rt; matches!(finish_move(&mut files, "/a.jpg", "/c.jpg"), Ok(false)));
+    assert!(rt; has(&files, "/a.jpg", OLD)?);
+    assert!(rt; matches!(finish_move(&mut files, "/a.jpg", "/b.jpg"), Ok(true)));
+    assert!(rt; files.find("/a.jpg")?.is_none());
+    assert!(rt; has(&files, "/b.jpg", OLD)? && has(&files, "/other.jpg", NEW)?);
     Ok(())
 }
 
