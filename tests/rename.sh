@@ -242,9 +242,50 @@ for n in $(seq 300); do cp files/whole.jpg "many/$n.jpg"; done
 sleep 0.05
 kill -9 $! 2>/dev/null
 wait 2>/dev/null
-check "no file is lost where the run is killed" test "$(find many -name '*.jpg' | wc -l)" = 300
+check "no file is lost where the run is killed" test "$(find many -name '*.jpg' -printf '%i\n' | sort -u | wc -l)" = 300
 gives "the run is done again" 0 "$mexaldor" rename -r '%Y%m%d_%H%M%S' many
 check "all are there" test "$(find many -name "$stamp*.jpg" | wc -l)" = 300
+check "and nothing else" test "$(ls many | wc -l)" = 300
+
+# a run that was killed between the two calls of a move leaves a file with both names
+fresh
+rm -rf begun && mkdir begun
+cp files/whole.jpg begun/IMG_1.jpg
+cp files/whole.jpg begun/IMG_2.jpg
+echo one >begun/IMG_1.xmp
+ln begun/IMG_1.jpg "begun/$stamp.jpg"
+cp -a begun killed
+gives "a move that was begun is shown by a dry run" 0 "$mexaldor" rename --dry-run -r '%Y%m%d_%H%M%S' begun
+check "which changes nothing" diff -r begun killed
+check "nor the names" test -e begun/IMG_1.jpg -a -e "begun/$stamp.jpg" -a "$(ls begun | wc -l)" = 4
+gives "a move that was begun is finished" 0 "$mexaldor" rename -r '%Y%m%d_%H%M%S' begun
+check "the old name is gone" test ! -e begun/IMG_1.jpg
+check "the new one has the file" cmp files/whole.jpg "begun/$stamp.jpg"
+check "its sidecar goes with it" test "$(cat "begun/$stamp.xmp")" = one
+check "another file gets a number" cmp files/whole.jpg "begun/${stamp}_1.jpg"
+check "there is no fourth" test "$(ls begun | wc -l)" = 3
+rm -rf begun && mkdir begun
+cp files/whole.jpg begun/IMG_1.jpg
+echo one >begun/IMG_1.xmp
+ln begun/IMG_1.xmp "begun/$stamp.xmp"
+gives "so is one of which the sidecar was moved" 0 "$mexaldor" rename -r '%Y%m%d_%H%M%S' begun
+check "both have the new name" test "$(ls begun | tr '\n' ' ')" = "$stamp.jpg $stamp.xmp "
+rm -rf begun sorted && mkdir begun sorted
+cp files/whole.jpg begun/IMG_1.jpg
+ln begun/IMG_1.jpg "sorted/$stamp.jpg"
+gives "so is one into a folder" 0 "$mexaldor" rename -r --into sorted '%Y%m%d_%H%M%S' begun
+check "the file is there" cmp files/whole.jpg "sorted/$stamp.jpg"
+check "and only there" test "$(ls begun | wc -l)" = 0
+cp "sorted/$stamp.jpg" begun/IMG_1.jpg
+gives "another file of the same bytes stays" 3 "$mexaldor" rename -r --into sorted '%Y%m%d_%H%M%S' begun
+check "where it is" test -e begun/IMG_1.jpg
+rm -rf sorted real && mkdir sorted real
+cp files/whole.jpg "real/$stamp.jpg"
+ln "real/$stamp.jpg" spare.jpg
+ln -s ../real "sorted/$year"
+gives "two paths of one name are one name" 3 "$mexaldor" rename --into sorted '%Y/%Y%m%d_%H%M%S' "real/$stamp.jpg"
+check "the file has it still" cmp files/whole.jpg "real/$stamp.jpg"
+rm -rf begun killed sorted real spare.jpg
 
 # thumbnails
 fresh

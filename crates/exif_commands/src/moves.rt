@@ -2,7 +2,7 @@
 
 use exif::Sink;
 use exif_decisions::Outcome;
-use exif_files::{FileSystem, HostFiles, Status, WriteError, folder_of};
+use exif_files::{FileSystem, HostFiles, Status, WriteError, finish_move, folder_of};
 use exif_rename::{Attributes, Move, Moved, copy_file, move_file, write_line};
 use exif_session::{Session, Stop};
 use std::alloc::{AllocError, Global};
@@ -110,13 +110,17 @@ fn write_move<W: Sink, E: Sink>(
     session.answer(line.as_bytes())
 }
 
-// Moves or copies a file, into a folder that is made if it is not there.
+// Moves or copies a file, into a folder that is made if it is not there. A move that an earlier run
+// began is finished.
 fn give_name(rt: &HostRuntime, copy: bool, from: &str, to: &str) -> Result<Moved, WriteError> {
     fs::create_dir_all(rt, folder_of(to))?;
     let mut files = HostFiles::new(rt);
     if copy {
         let attributes = copy_file(rt.alloc(), &mut files, from, to)?;
         return Ok(Moved::Copied(attributes));
+    }
+    if finish_move(&mut files, from, to)? {
+        return Ok(Moved::Renamed);
     }
     move_file(rt.alloc(), &mut files, from, to)
 }

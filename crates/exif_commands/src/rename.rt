@@ -5,12 +5,12 @@ use crate::members::{
 };
 use crate::moves::{Folders, Moving, move_all};
 use crate::names::new_name;
-use crate::present::{Sizes, There, find_there};
+use crate::present::{Numbered, There, find_begun, find_there};
 use exif::Sink;
 use exif_decisions::{Escaped, Outcome};
 use exif_files::{HostFiles, folder_of};
 use exif_rename::{
-    Entry, Moment, PlanError, Shot, Wish, compare_shots, group, plan_names, split_path,
+    Entry, Moment, Move, PlanError, Shot, Wish, compare_shots, group, plan_names, split_path,
 };
 use exif_session::{
     NewName, Next, Renaming, Session, Stop, folder_for, key_of, sidecars_of, wish_for,
@@ -40,9 +40,11 @@ struct Stem {
     moment: Option<Moment>,
 }
 
-/// Gives each file that is named or found its new name, and counts it. All names are planned before the first file is moved: nothing has them, and no two files get one. The files of
-/// one stem in one folder (pictures, videos, sidecars) get one name, by the first picture that has
-/// what the pattern requires; where none has, they are left and reported.
+/// Gives each file that is named or found its new name, and counts it. All names are planned before
+/// the first file is moved: nothing has them, and no two files get one. The files of one stem in one
+/// folder (pictures, videos, sidecars) get one name, by the first picture that has what the pattern
+/// requires; where none has, they are left and reported. Moves that an earlier run began are
+/// finished: a file that has its new name besides its old one loses the old one.
 pub fn rename_files<W: Sink, E: Sink>(
     session: &mut Session<'_, '_, W, E>,
     renaming: &Renaming<'_>,
@@ -305,12 +307,21 @@ fn wish_of(
     wish_for(alloc, folder, stem, name, paths.as_slice())
 }
 
-// The files that are to be planned.
+// The files that are to be planned, and those whose moves an earlier run began.
 #[derive(Drop)]
 struct Planned {
     wishes: Vec<Wish>,
     // the path of the first picture of each, as it was named or found
     paths: Vec<String>,
+    begun: Vec<Begun>,
+}
+
+// The files of one stem whose moves an earlier run began, before it was cut off.
+#[derive(Drop)]
+struct Begun {
+    // the path of the first picture, as it was named or found
+    path: String,
+    moves: Vec<Move>,
 }
 
 // Plans the numbers of the names, and moves the files or writes what would be moved.
@@ -324,7 +335,11 @@ fn carry_out<W: Sink, E: Sink>(
         copy: renaming.copy,
         dry_run: renaming.dry_run,
     };
-    let Planned { wishes, paths } = leave_there(session, renaming, stems)?;
+    let Planned {
+        wishes,
+        paths,
+        begun,
+    } = leave_there(session, renaming, stems)?;
     let numbers = match plan_names(alloc, &mut HostFiles::new(session.rt), wishes.as_slice()) {
         Ok(numbers) => numbers,
         Err(PlanError::OutOfMemory) => return Err(Stop::OutOfMemory),
@@ -336,6 +351,7 @@ fn carry_out<W: Sink, E: Sink>(
         Err(error) => return refuse(session, "", &error),
     };
     let mut moved = Folders::new(alloc);
+    finish_begun(session, moving, &mut moved, begun)?;
     for ((path, wish), number) in paths.iter().zip(wishes.iter()).zip(numbers.iter()) {
         let moves = wish.moves(alloc, *number)?;
         let path = path.as_str();
@@ -349,22 +365,46 @@ fn carry_out<W: Sink, E: Sink>(
     moved.settle(session)
 }
 
-// The files that are to be planned: not those of which another folder, or a copy, has the bytes by
-// one of their new names already. These are left and reported.
+// Finishes the moves that an earlier run began.
+fn finish_begun<W: Sink, E: Sink>(
+    session: &mut Session<'_, '_, W, E>,
+    moving: Moving,
+    moved: &mut Folders,
+    begun: Vec<Begun>,
+) -> Result<(), Stop> {
+    for Begun { path, moves } in begun {
+        let outcome = move_all(session, moving, moved, path.as_str(), moves.as_slice())?;
+        session.count(outcome);
+    }
+    Ok(())
+}
+
+// The files that are to be planned: not those whose moves an earlier run began, which are to be
+// finished; and not those of which another folder, or a copy, has the bytes by one of their new
+// names already, which are left and reported.
 fn leave_there<W: Sink, E: Sink>(
     session: &mut Session<'_, '_, W, E>,
     renaming: &Renaming<'_>,
     stems: Vec<Stem>,
 ) -> Result<Planned, Stop> {
     let alloc = session.rt.alloc();
-    let mut sizes = Sizes::new(alloc);
+    let mut numbered = Numbered::new(alloc);
     let mut planned = Planned {
         wishes: Vec::new(alloc),
         paths: Vec::new(alloc),
+        begun: Vec::new(alloc),
     };
     for stem in stems {
+        if !renaming.copy {
+            let found = find_begun(session.rt, &mut numbered, &stem.wish, stem.sidecars)?;
+            if let Some(moves) = found {
+                let path = stem.path;
+                planned.begun.push(Begun { path, moves })?;
+                continue;
+            }
+        }
         if looks_there(renaming.copy, renaming.into.is_some()) {
-            let found = find_there(session.rt, &mut sizes, &stem.wish, stem.sidecars)?;
+            let found = find_there(session.rt, &mut numbered, &stem.wish, stem.sidecars)?;
             if let Some(there) = found {
                 let outcome = report_there(session, renaming.copy, stem.path.as_str(), &there)?;
                 session.count(outcome);
