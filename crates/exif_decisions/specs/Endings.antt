@@ -68,3 +68,23 @@ ending_in name =
     else if has name (codes ".aae") then Some Aae
     else if has name (codes ".thm") then Some Thm
     else other_picture name
+
+-- what a message names it
+abbrev pub ending_text : Ending → List ℕ
+ending_text Jpeg = codes "JPEG"
+ending_text Png = codes "PNG"
+ending_text Tiff = codes "TIFF"
+ending_text Heif = codes "HEIF"
+ending_text WebP = codes "WebP"
+ending_text JpegXl = codes "JPEG XL"
+ending_text Raw = codes "raw"
+ending_text Gif = codes "GIF"
+ending_text Bmp = codes "BMP"
+ending_text Photoshop = codes "PSD"
+ending_text Jpeg2000 = codes "JPEG 2000"
+ending_text Svg = codes "SVG"
+ending_text Pdf = codes "PDF"
+ending_text Video = codes "video"
+ending_text Xmp = codes "XMP"
+ending_text Aae = codes "AAE"
+ending_text Thm = codes "THM"

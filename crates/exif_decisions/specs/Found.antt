@@ -1,5 +1,7 @@
 -- What is done with a file that was found in a folder.
-use Rattle.std.specs.Prelude.{Bool, true, false, if◌then◌else◌, Option, None, Some}
+use Rattle.std.specs.Prelude.{ℕ, Bool, true, false, if◌then◌else◌, List, ◌++◌, codes, Option, None, Some}
+use Rattle.exif_decisions.specs.Endings.{ending_text}
+use Rattle.exif_decisions.specs.Unsupported.{format_text}
 use Rattle.exif_decisions.specs.declared.endings.Ending.{Ending}
 use Rattle.exif_decisions.specs.declared.endings.Ending.TheVariants as ending
 use Rattle.exif_decisions.specs.declared.formats.Unsupported.{Unsupported}
@@ -76,3 +78,12 @@ abbrev pub reported_of : Found → Option NotRead
 reported_of found.Picture = None
 reported_of (found.NotRead why) = if is_named_by why then Some why else None
 reported_of found.Other = None
+
+-- what a message says of a file that is not read
+abbrev pub not_read_text : NotRead → List ℕ
+not_read_text (Format format) = codes "not read: " ++ format_text format
+not_read_text (Damaged ending) =
+    codes "damaged: no known signature of a " ++ (ending_text ending ++ codes " file")
+not_read_text (Empty ending) = codes "not read: the file is empty"
+not_read_text (Sidecar ending) =
+    codes "not read: " ++ (ending_text ending ++ codes " sidecar")

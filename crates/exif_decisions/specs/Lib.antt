@@ -1,4 +1,5 @@
 pub mod Endings
+pub mod Escaping
 pub mod Found
 pub mod Outcomes
 pub mod Paths

@@ -1,5 +1,9 @@
 -- How files are counted, and the status of a run.
-use Rattle.std.specs.Prelude.{◌≡◌, ℕ, ◌+◌, ◌-◌, ◌^◌, min, nat_lt, Bool, true, false, ◌||◌}
+use Rattle.std.specs.Prelude.{◌≡◌, ℕ, ◌+◌, ◌-◌, ◌^◌, min, nat_lt, Bool, true, false, ◌||◌, Option, None, Some}
+use Rattle.exif_decisions.specs.declared.endings.Ending.{Ending}
+use Rattle.exif_decisions.specs.declared.endings.Ending.TheVariants.{Xmp, Aae, Thm}
+use Rattle.exif_decisions.specs.declared.formats.Unsupported.{Unsupported}
+use Rattle.exif_decisions.specs.declared.formats.Unsupported.TheVariants.{Gif, Bmp, Psd, Raw, Video, Jpeg2000, BigTiff, Svg, Pdf}
 use Rattle.exif_files.specs.declared.outcome.Status.{Status}
 use Rattle.exif_files.specs.declared.outcome.Status.TheVariants.{Success, Incomplete}
 use Rattle.exif_files.specs.declared.outcome.Status.TheVariants as status
@@ -82,3 +86,24 @@ pub record AreSameFiles (old new : Counts) : Type 0 where
   pub unchanged : new.unchanged ≡ old.unchanged
   pub refused : new.refused ≡ old.refused
   pub not_read : new.not_read ≡ old.not_read
+
+-- ---- kinds of files that are not read
+
+-- the place of a format in a summary
+abbrev pub format_place : Unsupported → ℕ
+format_place Gif = 0
+format_place Bmp = 1
+format_place Psd = 2
+format_place Raw = 3
+format_place Video = 4
+format_place Jpeg2000 = 5
+format_place BigTiff = 6
+format_place Svg = 7
+format_place Pdf = 8
+
+-- that of a sidecar, by the ending of its name
+abbrev pub sidecar_place : Ending → Option ℕ
+sidecar_place Xmp = Some 0
+sidecar_place Aae = Some 1
+sidecar_place Thm = Some 2
+sidecar_place ending = None

@@ -3,7 +3,7 @@ use Rattle.std.specs.Prelude.{ℕ, List, [], ◌∷◌, ◌++◌, Bool, ◌||◌
 use Rattle.std.specs.List.{starts_with}
 use Rattle.std.specs.Option.{option_or}
 use Rattle.exif_decisions.specs.declared.formats.Unsupported.{Unsupported}
-use Rattle.exif_decisions.specs.declared.formats.Unsupported.TheVariants.{Gif, Bmp, Psd, Raw, Video, Jpeg2000, BigTiff, Pdf}
+use Rattle.exif_decisions.specs.declared.formats.Unsupported.TheVariants.{Gif, Bmp, Psd, Raw, Video, Jpeg2000, BigTiff, Svg, Pdf}
 
 -- raw files of Fujifilm, Canon (CRW, CR3), Panasonic, Olympus, Minolta and Sigma
 abbrev pub begins_raw : List ℕ → Bool
@@ -66,3 +66,15 @@ other head =
 -- a picture, or another format
 abbrev pub unsupported : List ℕ → Option Unsupported
 unsupported head = option_or (picture head) (other head)
+
+-- what a message names a format
+abbrev pub format_text : Unsupported → List ℕ
+format_text Gif = codes "GIF"
+format_text Bmp = codes "BMP"
+format_text Psd = codes "PSD"
+format_text Raw = codes "raw"
+format_text Video = codes "video"
+format_text Jpeg2000 = codes "JPEG 2000"
+format_text BigTiff = codes "BigTIFF"
+format_text Svg = codes "SVG"
+format_text Pdf = codes "PDF"

@@ -1,8 +1,8 @@
 //! How many files were processed, refused and skipped.
 
-ghost use Rattle.std.specs.Prelude.{◌≡◌};
+ghost use Rattle.std.specs.Prelude.{◌≡◌, ◌≢◌, ◌<◌, ℕ, Some, IfSome, slice_index};
 ghost use Rattle.exif_files.specs.Statuses.{worse};
-ghost use Rattle.exif_decisions.specs.Tallies.{AreSameFiles, counted_done, counted_partial, counted_current, counted_unchanged, counted_refused, counted_not_read, counted_others, one_more, status_in};
+ghost use Rattle.exif_decisions.specs.Tallies.{AreSameFiles, counted_done, counted_partial, counted_current, counted_unchanged, counted_refused, counted_not_read, counted_others, format_place, one_more, sidecar_place, status_in};
 ghost use Rattle.exif_decisions.specs.Outcomes.{status_for};
 
 use crate::endings::Ending;
@@ -166,19 +166,57 @@ impl Counts {
     }
 }
 
-fn count_format(counts: &mut [u64; 9], format: Unsupported) {
-    for (count, known) in counts.iter_mut().zip(ALL) {
-        if known == format {
-            *count = count.saturating_add(1);
-        }
+// The place of a format in `ALL`.
+fn place_of(format: Unsupported) -> usize
+    ensures value { result ≡ format_place format }
+    ensures within { result < 9 }
+{
+    match format {
+        Unsupported::Gif => 0,
+        Unsupported::Bmp => 1,
+        Unsupported::Psd => 2,
+        Unsupported::Raw => 3,
+        Unsupported::Video => 4,
+        Unsupported::Jpeg2000 => 5,
+        Unsupported::BigTiff => 6,
+        Unsupported::Svg => 7,
+        Unsupported::Pdf => 8,
     }
 }
 
-fn count_sidecar(counts: &mut [u64; 3], ending: Ending) {
-    for (count, known) in counts.iter_mut().zip(SIDECARS) {
-        if known == ending {
-            *count = count.saturating_add(1);
-        }
+// The place of a sidecar in `SIDECARS`; other files are none.
+fn sidecar_place(ending: Ending) -> Option<usize>
+    ensures value { result ≡ sidecar_place ending }
+    ensures within { IfSome result (λ place. place < 3) }
+{
+    match ending {
+        Ending::Xmp => Some(0),
+        Ending::Aae => Some(1),
+        Ending::Thm => Some(2),
+        _ => None,
+    }
+}
+
+// One more file of a format.
+fn count_format(counts: &mut [u64; 9], format: Unsupported)
+    ensures here { slice_index counts.new (format_place format)
+        ≡ one_more (slice_index counts.old (format_place format)) }
+    ensures others { (n : ℕ) → n ≢ format_place format
+        → slice_index counts.new n ≡ slice_index counts.old n }
+{
+    let place = place_of(format);
+    counts[place] = counts[place].saturating_add(1);
+}
+
+// One more sidecar.
+fn count_sidecar(counts: &mut [u64; 3], ending: Ending)
+    ensures here { IfSome (sidecar_place ending) (λ place. slice_index counts.new place
+        ≡ one_more (slice_index counts.old place)) }
+    ensures others { (n : ℕ) → sidecar_place ending ≢ Some n
+        → slice_index counts.new n ≡ slice_index counts.old n }
+{
+    if let Some(place) = sidecar_place(ending) {
+        counts[place] = counts[place].saturating_add(1);
     }
 }
 

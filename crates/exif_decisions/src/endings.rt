@@ -1,7 +1,7 @@
 //! What files are by the endings of their names.
 
 ghost use Rattle.std.specs.Prelude.{◌≡◌, ◌-◌, drop, length};
-ghost use Rattle.exif_decisions.specs.Endings.{has, ending_in, is_jpeg, is_heif, is_raw_tiff, is_raw_other, is_jpeg2000, is_video, other_picture};
+ghost use Rattle.exif_decisions.specs.Endings.{ending_text, has, ending_in, is_jpeg, is_heif, is_raw_tiff, is_raw_other, is_jpeg2000, is_video, other_picture};
 
 /// What a file is by the ending of its name.
 #[derive(Clone, Copy, PartialEq, Eq)]
@@ -30,7 +30,9 @@ pub enum Ending {
 
 impl Ending {
     /// What a message names it.
-    pub fn name(self) -> &'static str {
+    pub fn name(self) -> &'static str
+        ensures { result.now ≡ ending_text self }
+    {
         match self {
             Ending::Jpeg => "JPEG",
             Ending::Png => "PNG",

@@ -2,7 +2,7 @@
 
 ghost use Rattle.std.specs.Prelude.{◌≡◌, drop, nat_eq};
 ghost use Rattle.std.specs.List.{starts_with};
-ghost use Rattle.exif_decisions.specs.Unsupported.{unsupported, picture, other, begins_raw, begins_still, begins_video, begins_jpeg2000, begins_big_tiff};
+ghost use Rattle.exif_decisions.specs.Unsupported.{format_text, unsupported, picture, other, begins_raw, begins_still, begins_video, begins_jpeg2000, begins_big_tiff};
 
 /// A format of pictures, videos or documents that is known, and not read.
 #[derive(Clone, Copy, PartialEq, Eq)]
@@ -33,7 +33,9 @@ pub const ALL: [Unsupported; 9] = [
 
 impl Unsupported {
     /// Its name.
-    pub fn name(self) -> &'static str {
+    pub fn name(self) -> &'static str
+        ensures { result.now ≡ format_text self }
+    {
         match self {
             Unsupported::Gif => "GIF",
             Unsupported::Bmp => "BMP",

@@ -1,7 +1,7 @@
 //! What is done with a file that was found in a folder.
 
-ghost use Rattle.std.specs.Prelude.{◌≡◌};
-ghost use Rattle.exif_decisions.specs.Found.{class_for, class_by_ending, is_named_by, reported_of, step_for};
+ghost use Rattle.std.specs.Prelude.{◌≡◌, Some};
+ghost use Rattle.exif_decisions.specs.Found.{class_for, class_by_ending, is_named_by, not_read_text, reported_of, step_for};
 
 use crate::endings::Ending;
 use crate::formats::Unsupported;
@@ -78,6 +78,8 @@ impl Found {
 }
 
 impl fmt::Display for NotRead {
+    ghost output = { λ why. Some (not_read_text why) };
+
     fn fmt<W: fmt::Write>(&self, f: &mut fmt::Formatter<W>) -> fmt::Result {
         match *self {
             NotRead::Format(format) => {

@@ -1,6 +1,7 @@
 pub mod Changed
 pub mod Each
 pub mod Failed
+pub mod Folders
 pub mod Names
 pub mod NewNames
 pub mod Parts

@@ -3,6 +3,7 @@
 ghost use Rattle.std.specs.Prelude.{◌≡◌, ◌≢◌, ◌≤◌, ◌<◌, [], IfOk, IsTrue, length};
 ghost use Rattle.exif_files.specs.Steps.{count_after};
 
+use crate::folder::folder_of;
 use crate::system::FileSystem;
 use std::alloc::Global;
 use std::fs::{self, File, FileTimes, Metadata, OpenOptions};
@@ -44,15 +45,6 @@ struct Stamp {
 struct Current {
     name: String,
     file: File,
-}
-
-/// The folder of a file.
-pub fn folder_of(name: &str) -> &str {
-    match name.rsplit_once('/') {
-        Some(("", _)) => "/",
-        Some((folder, _)) => folder,
-        None => ".",
-    }
 }
 
 impl<'r> HostFiles<'r> {

@@ -9,7 +9,7 @@ ghost use Rattle.exif_files.specs.Parts.{IsAppended};
 ghost use Rattle.exif_files.specs.declared.failure.WriteError.TheVariants.{OutOfMemory, Taken, Crowded};
 
 use crate::failure::WriteError;
-use crate::host::folder_of;
+use crate::folder::folder_of;
 use crate::system::FileSystem;
 use std::alloc::{AllocError, Global};
 use std::io;
