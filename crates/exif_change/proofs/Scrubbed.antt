@@ -11,8 +11,8 @@ use Rattle.exif_parts.specs.Written.{Written}
 use Rattle.exif_parts.specs.declared.rewritten.Ended.{Ended}
 use Rattle.exif_parts.specs.declared.rewritten.Ended.TheVariants.{Whole, Cut}
 use Rattle.exif_parts.proofs.Answered.{answered, begun}
-use Rattle.exif_rewrite.specs.FileLaws.{AnswersPut, ComesOut, IsFound}
-use Rattle.exif_rewrite.specs.RewrittenFile.{at_once, file_rewriting, rewriting_as}
+use Rattle.exif_rewrite.specs.FileLaws.{AnswersPut, IsFound}
+use Rattle.exif_rewrite.specs.RewrittenFile.{file_rewriting, rewriting_as}
 use Rattle.exif_rewrite.specs.RewrittenWebp.{webp_rewriting}
 use Rattle.exif_rewrite.proofs.FileHeads.{jpeg_container}
 use Rattle.exif_change.specs.Changed.{Change, Undone, whole}
@@ -80,7 +80,7 @@ webp_ok (Err refusal) new e = absurd (not_whole (reading refusal) new e)
 
 webp_is : (remove : Remove) (put : Option (List ℕ)) (file : List ℕ)
     → format_in (take 4096 file) ≡ Some WebP
-    → file_rewriting remove put file ≡ at_once (webp_rewriting remove put file)
+    → file_rewriting remove put file ≡ webp_rewriting remove put file
 unfolding file_rewriting rewriting_as
 webp_is remove put file is = ap (λ f. rewriting_as f remove put file) is
 
@@ -91,7 +91,5 @@ pub webp_answers : (remove : Remove) (put : Option (List ℕ)) (file new : List 
     → as_read (rewritten_webp remove put file) ≡ Ok (whole new) → length new < 2 ^ 64
     → AnswersPut put (container_answer new)
 webp_answers remove put file new law is e short =
-    let all : file_rewriting remove put file ≡ at_once (Ok new) =
-    webp_is remove put file is ∙ ap at_once (webp_ok (webp_rewriting remove put file) new e) in
-    subst (λ r. ComesOut r → AnswersPut put (container_answer r.out)) all (law remove put file)
-    (record { whole = refl; short = short })
+    law remove put file new
+    (webp_is remove put file is ∙ webp_ok (webp_rewriting remove put file) new e) short

@@ -1,11 +1,10 @@
 //! Pictures edited in place, and rewritten without private data.
 
-ghost use Rattle.std.specs.Prelude.{◌≡◌, None, IfOk, OnErr, OnOk};
+ghost use Rattle.std.specs.Prelude.{◌≡◌, None, Ok, IfOk, OnErr, OnOk};
 ghost use Rattle.exif_base.specs.Orders.{order_named};
 ghost use Rattle.exif_edit.specs.declared.edits.Edit.TheVariants.{EraseGps};
 ghost use Rattle.exif_edit.specs.InFiles.{IsEditedIn};
 ghost use Rattle.exif_segments.specs.declared.remove.Remove.TheVariants.{Metadata};
-ghost use Rattle.exif_rewrite_jpeg.specs.Rewriting.{ends, finished};
 ghost use Rattle.exif_rewrite.specs.RewrittenFile.{file_rewriting};
 ghost use Rattle.exif_layout.specs.Image.{image};
 ghost use Rattle.exif_layout.specs.Scrubbing.{scrubbed};
@@ -47,7 +46,7 @@ pub fn erase_location(alloc: Global, picture: &mut [u8]) -> Result<(), exif_edit
 /// A JPEG or WebP picture without its metadata.
 pub fn without_metadata(alloc: Global, picture: &[u8]) -> Result<Vec<u8>, exif::Error>
     ensures clean { IfOk result
-        (λ clean. file_rewriting Metadata None picture.now ≡ ends finished clean.items) }
+        (λ clean. file_rewriting Metadata None picture.now ≡ Ok clean.items) }
 {
     let mut clean = Counted::new(Vec::new(alloc));
     rewrite(

@@ -1,7 +1,7 @@
 //! A JPEG file written again (ITU-T T.81, B.1.1; Exif 2.32, 4.7.2).
 
 ghost use Rattle.std.specs.Prelude.{◌≡◌, ◌≤◌, ◌+◌, ◌∷◌, [], false, length, IfOk};
-ghost use Rattle.exif_types.specs.Refusals.{Gives};
+ghost use Rattle.exif_types.specs.Refusals.{Gives, is_io};
 ghost use Rattle.exif_segments.specs.Removing.{behind, payload_of};
 ghost use Rattle.exif_parts.specs.Jpeg.{exif_segment, filtered, inserted, is_scanned, pending, resources_len, rewritten, segment_of};
 ghost use Rattle.exif_parts.specs.Written.{written_of};
@@ -61,7 +61,8 @@ fn exif_segment(alloc: Global, payload: &[u8]) -> Result<Vec<u8>, AllocError>
 
 // The segment of new Exif data if there are some, and no bytes if there are none.
 fn segment_of(alloc: Global, put: Option<&[u8]>) -> Result<Vec<u8>, Error>
-    ensures { Gives (λ v. v.items) result (segment_of (payload_of put.entry)) }
+    ensures gives { Gives (λ v. v.items) result (segment_of (payload_of put.entry)) }
+    ensures no_device { is_io result ≡ false }
 {
     let Some(payload) = put else {
         return Ok(Vec::new(alloc));
@@ -98,8 +99,9 @@ fn behind(remove: Remove, rest: &[u8]) -> &[u8]
 
 // The pieces that stay of a stream behind its first marker, and the new segment.
 fn filtered(alloc: Global, remove: Remove, new: &[u8], stream: &[u8]) -> Result<Rewritten, Error>
-    ensures { Gives written_of result
+    ensures gives { Gives written_of result
         (filtered (length stream.now) remove false new.now stream.now (255 ∷ 216 ∷ [])) }
+    ensures no_device { is_io result ≡ false }
 {
     let mut out = Vec::from_slice(alloc, &[0xff, 0xd8])?;
     let mut rest = stream;
@@ -155,7 +157,8 @@ pub fn rewrite_jpeg(
     remove: Remove,
     put: Option<&[u8]>,
 ) -> Result<Rewritten, Error>
-    ensures { Gives written_of result (rewritten remove (payload_of put.entry) file.now) }
+    ensures gives { Gives written_of result (rewritten remove (payload_of put.entry) file.now) }
+    ensures no_device { is_io result ≡ false }
 {
     let new = segment_of(alloc, put)?;
     if file.len() < 2 {

@@ -1,38 +1,41 @@
 -- Files that were written again: what reading finds in them, and what they are when written again
 -- once more.
-use Rattle.std.proofs.Common.{◌≡◌, ◌∙◌, inl, inr, ℕ, ◌<◌, ◌^◌, ◌-◌, List, length, take, Option, None, Some, Result, Ok, Err, refl, sym, ap, arith}
-use Rattle.std.proofs.lemmas.List.{take_all}
-use Rattle.exif_types.specs.Refusals.{Refusal}
+use Rattle.std.proofs.Common.{◌≡◌, ◌∙◌, inl, inr, ℕ, ◌<◌, ◌^◌, List, length, take, Option, None, Some, Result, Ok, Err, ap}
+use Rattle.exif_types.specs.Refusals.{Refusal, ◌>>=◌}
 use Rattle.exif_containers.specs.Container.{container_answer, data_of, format_in, unknown_format}
 use Rattle.exif_segments.specs.Jpeg.{jpeg_answer}
 use Rattle.exif_segments.specs.Webp.{webp_answer}
 use Rattle.exif_containers.specs.declared.container.Format.{Format}
 use Rattle.exif_containers.specs.declared.container.Format.TheVariants.{Tiff, Jpeg, Heif, WebP}
 use Rattle.exif_segments.specs.declared.remove.Remove.{Remove}
-use Rattle.exif_rewrite_jpeg.specs.JpegLaws as jpeg_laws
-use Rattle.exif_rewrite_jpeg.specs.JpegSteps.{strictly, strict_end}
-use Rattle.exif_rewrite_jpeg.specs.JpegTokens.{IsFiltered}
-use Rattle.exif_rewrite_jpeg.specs.Rewriting.{End, finished, cut_off, refused_by}
-use Rattle.exif_rewrite_jpeg.specs.RewrittenJpeg.{jpeg_rewriting}
+use Rattle.exif_parts.specs.Jpeg.{Rewriting, rewritten}
+use Rattle.exif_parts.specs.Laws as jpeg_laws
+use Rattle.exif_parts.specs.Written.{Written}
+use Rattle.exif_parts.specs.declared.rewritten.Ended.TheVariants.{Whole}
+use Rattle.exif_parts.proofs.Answered.{begun}
+use Rattle.exif_rewrite.specs.RewrittenJpeg.{jpeg_rewriting, unless_cut}
 use Rattle.exif_rewrite.specs.RewrittenWebp.{webp_rewriting}
 use Rattle.exif_rewrite.specs.WebpLaws.{FileAnswers, FileIsAnswered, FileIsStable}
-use Rattle.exif_rewrite.specs.FileLaws.{AnswersPut, ComesOut, IsFound, IsSettled}
-use Rattle.exif_rewrite.specs.RewrittenFile.{at_once, file_rewriting, heif_stays, rewriting_as, tiff_stays}
+use Rattle.exif_rewrite.specs.FileLaws.{AnswersPut, IsFound, IsSettled}
+use Rattle.exif_rewrite.specs.RewrittenFile.{file_rewriting, heif_stays, rewriting_as, tiff_stays}
 use Rattle.exif_rewrite.proofs.FileHeads.{jpeg_container, jpeg_head, webp_begins, webp_container, webp_head}
+use Rattle.exif_rewrite.proofs.JpegSteps.{whole_made}
 
-strict_finished : (e : End) → strict_end e ≡ finished → e ≡ finished
-strict_finished finished h = refl
-strict_finished (cut_off new) h = absurd (cc)
-strict_finished (refused_by r) h = absurd (cc)
+-- the laws of JPEG files
+abbrev JpegIsAnswered : Remove → Option (List ℕ) → List ℕ → Type 0
+JpegIsAnswered remove put bytes = (new : Written) → jpeg_laws.IsAnswered remove put bytes new
 
-once_finished : (o : Result (List ℕ) Refusal) → (at_once o).end ≡ finished → o ≡ Ok (at_once o).out
-once_finished (Ok text) h = refl
-once_finished (Err r) h = absurd (cc)
+abbrev JpegIsStable : Remove → Option (List ℕ) → List ℕ → Type 0
+JpegIsStable remove put bytes = (new : Written) → jpeg_laws.IsStable remove put bytes new
 
-refused_first : {P : Type 0} (r : Refusal) → refused_by r ≡ finished → P
-refused_first r h = absurd (cc)
+-- a whole file
+abbrev whole : List ℕ → Written
+whole out = record { bytes = out; ended = Whole }
 
-jpeg_put : (put : Option (List ℕ)) (out : List ℕ) → container_answer out ≡ data_of (jpeg_answer out) → jpeg_laws.Answers put out → AnswersPut put (container_answer out)
+refused_first : {P : Type 0} (r : Refusal) (out : List ℕ) → (let refused : Result (List ℕ) Refusal = Err r in refused ≡ Ok out) → P
+refused_first r out h = absurd (cc)
+
+jpeg_put : (put : Option (List ℕ)) (out : List ℕ) → container_answer out ≡ data_of (jpeg_answer out) → jpeg_laws.Answers put (whole out) → AnswersPut put (container_answer out)
 jpeg_put None out e h = inl (e ∙ ap data_of h)
 jpeg_put (Some payload) out e h = e ∙ ap data_of h.1
 
@@ -41,51 +44,43 @@ webp_put None out e h = inr (e ∙ ap data_of h)
 webp_put (Some payload) out e h = e ∙ ap data_of h.1
 
 found_as : (f : Option Format) (remove : Remove) (put : Option (List ℕ)) (bytes : List ℕ)
-    → jpeg_laws.IsAnswered remove put (take (2 ^ 64 - 1) bytes) → IsFiltered remove put (take (2 ^ 64 - 1) bytes) → FileIsAnswered remove put bytes
-    → ComesOut (rewriting_as f remove put bytes) → AnswersPut put (container_answer (rewriting_as f remove put bytes).out)
+    → JpegIsAnswered remove put bytes → FileIsAnswered remove put bytes
+    → (out : List ℕ) → rewriting_as f remove put bytes ≡ Ok out → length out < 2 ^ 64 → AnswersPut put (container_answer out)
 unfolding rewriting_as
-found_as (Some Jpeg) remove put bytes ja jf wa c =
-    let out = (jpeg_rewriting remove put (take (2 ^ 64 - 1) bytes)).out in
-    let whole = strict_finished (jpeg_rewriting remove put (take (2 ^ 64 - 1) bytes)).end c.whole in
-    jpeg_put put out (jpeg_container out _ (jf whole).bytes_are c.short) (ja whole)
-found_as (Some WebP) remove put bytes ja jf wa c =
-    let out = (at_once (webp_rewriting remove put bytes)).out in
-    let answers = wa out (once_finished (webp_rewriting remove put bytes) c.whole) in
+found_as (Some Jpeg) remove put bytes ja wa out e short =
+    let made = whole_made (rewritten remove put bytes) out e in
+    let head = begun remove put bytes (whole out) made in
+    jpeg_put put out (jpeg_container out head.tail head.is short) (ja (whole out) made)
+found_as (Some WebP) remove put bytes ja wa out e short =
+    let answers = wa out e in
     webp_put put out (webp_container out (webp_begins put out answers)) answers
-found_as (Some Heif) remove put bytes ja jf wa c = refused_first heif_stays c.whole
-found_as (Some Tiff) remove put bytes ja jf wa c = refused_first tiff_stays c.whole
-found_as None remove put bytes ja jf wa c = refused_first unknown_format c.whole
+found_as (Some Heif) remove put bytes ja wa out e short = refused_first heif_stays out e
+found_as (Some Tiff) remove put bytes ja wa out e short = refused_first tiff_stays out e
+found_as None remove put bytes ja wa out e short = refused_first unknown_format out e
 
 settled_as : (f : Option Format) (remove : Remove) (put : Option (List ℕ)) (bytes : List ℕ)
-    → IsFiltered remove put (take (2 ^ 64 - 1) bytes) → jpeg_laws.IsStable remove put (take (2 ^ 64 - 1) bytes) → FileIsAnswered remove put bytes → FileIsStable remove put bytes
-    → ComesOut (rewriting_as f remove put bytes)
-    → rewriting_as (format_in (take 4096 (rewriting_as f remove put bytes).out)) remove put (rewriting_as f remove put bytes).out ≡ rewriting_as f remove put bytes
+    → JpegIsStable remove put bytes → FileIsAnswered remove put bytes → FileIsStable remove put bytes
+    → (out : List ℕ) → rewriting_as f remove put bytes ≡ Ok out → rewriting_as (format_in (take 4096 out)) remove put out ≡ Ok out
 unfolding rewriting_as
-settled_as (Some Jpeg) remove put bytes jf js wa ws c =
-    let out = (jpeg_rewriting remove put (take (2 ^ 64 - 1) bytes)).out in
-    let whole = strict_finished (jpeg_rewriting remove put (take (2 ^ 64 - 1) bytes)).end c.whole in
-    let short : length out < 2 ^ 64 = c.short in
-    ap (λ f. rewriting_as f remove put out) (jpeg_head out _ (jf whole).bytes_are)
-    ∙ ap (λ t. strictly (jpeg_rewriting remove put t)) (take_all (2 ^ 64 - 1) out (omega arith)) ∙ ap strictly (js whole)
-settled_as (Some WebP) remove put bytes jf js wa ws c =
-    let out = (at_once (webp_rewriting remove put bytes)).out in
-    let is = once_finished (webp_rewriting remove put bytes) c.whole in
-    ap (λ f. rewriting_as f remove put out) (webp_head out (webp_begins put out (wa out is)))
-    ∙ ap at_once (ws out is) ∙ sym (ap at_once is)
-settled_as (Some Heif) remove put bytes jf js wa ws c = refused_first heif_stays c.whole
-settled_as (Some Tiff) remove put bytes jf js wa ws c = refused_first tiff_stays c.whole
-settled_as None remove put bytes jf js wa ws c = refused_first unknown_format c.whole
+settled_as (Some Jpeg) remove put bytes js wa ws out e =
+    let made = whole_made (rewritten remove put bytes) out e in
+    let head = begun remove put bytes (whole out) made in
+    ap (λ f. rewriting_as f remove put out) (jpeg_head out head.tail head.is)
+    ∙ ap (λ (o : Rewriting). o >>= λ new. unless_cut new.ended new.bytes) (js (whole out) made)
+settled_as (Some WebP) remove put bytes js wa ws out e =
+    ap (λ f. rewriting_as f remove put out) (webp_head out (webp_begins put out (wa out e))) ∙ ws out e
+settled_as (Some Heif) remove put bytes js wa ws out e = refused_first heif_stays out e
+settled_as (Some Tiff) remove put bytes js wa ws out e = refused_first tiff_stays out e
+settled_as None remove put bytes js wa ws out e = refused_first unknown_format out e
 
--- reading a file written again finds what was put, given the laws of JPEG streams and WebP files
+-- reading a file written again finds what was put, given the laws of JPEG and WebP files
 pub file_found : (remove : Remove) (put : Option (List ℕ)) (bytes : List ℕ)
-    → jpeg_laws.IsAnswered remove put (take (2 ^ 64 - 1) bytes) → IsFiltered remove put (take (2 ^ 64 - 1) bytes) → FileIsAnswered remove put bytes
-    → IsFound remove put bytes
+    → JpegIsAnswered remove put bytes → FileIsAnswered remove put bytes → IsFound remove put bytes
 unfolding file_rewriting
 file_found remove put bytes = found_as (format_in (take 4096 bytes)) remove put bytes
 
--- a file written again twice is as written once, given the laws of JPEG streams and WebP files
+-- a file written again twice is as written once, given the laws of JPEG and WebP files
 pub file_settled : (remove : Remove) (put : Option (List ℕ)) (bytes : List ℕ)
-    → IsFiltered remove put (take (2 ^ 64 - 1) bytes) → jpeg_laws.IsStable remove put (take (2 ^ 64 - 1) bytes) → FileIsAnswered remove put bytes → FileIsStable remove put bytes
-    → IsSettled remove put bytes
+    → JpegIsStable remove put bytes → FileIsAnswered remove put bytes → FileIsStable remove put bytes → IsSettled remove put bytes
 unfolding file_rewriting
 file_settled remove put bytes = settled_as (format_in (take 4096 bytes)) remove put bytes

@@ -1,12 +1,10 @@
 -- A file whose first bytes choose, and what each container's call says of it.
-use Rattle.std.proofs.Common.{◌≡◌, ℕ, ◌<◌, ◌≤◌, ◌^◌, ◌-◌, List, [], ◌∷◌, ◌++◌, length, take, Option, None, Some, Result, IfErr, IfSome, OnOk, MatchOption, Ok, Err, refl, sym, subst, ap, ◌∙◌, arith}
+use Rattle.std.proofs.Common.{◌≡◌, ℕ, ◌<◌, ◌≤◌, ◌^◌, List, ◌∷◌, [], ◌++◌, length, take, Option, None, Some, Result, IfErr, IfSome, OnOk, Ok, Err, sym, subst, ◌∙◌, arith}
 use Rattle.std.proofs.lemmas.List.{length-take-le}
 use Rattle.std.proofs.lemmas.List.Elements.{Contains-append_left, Contains-append_right}
-use Rattle.std.specs.Io.KnownBytes.{Appends, Consumes, IsAtEnd, prepend_known}
-use Rattle.exif_base.proofs.Sent.{keeps_same, front_none}
-use Rattle.exif_base.specs.Sent.{SendsFront}
+use Rattle.std.specs.Io.KnownBytes.{Consumes, IsAtEnd, prepend_known}
 use Rattle.exif_types.specs.Failures.{Failure}
-use Rattle.exif_types.specs.Refusals.{Refusal, refusal_of}
+use Rattle.exif_types.specs.Refusals.{Refusal}
 use Rattle.exif_segments.specs.Answer.{IsNamed}
 use Rattle.exif_containers.specs.Container.{format_in, unknown_format}
 use Rattle.exif_containers.specs.declared.container.Format.{Format}
@@ -14,19 +12,25 @@ use Rattle.exif_containers.specs.declared.container.Format.TheVariants.{Tiff, Jp
 use Rattle.exif_containers.proofs.ContainerSteps.{head-first}
 use Rattle.exif_containers.proofs.ContainerNames.{more_named}
 use Rattle.exif_segments.specs.declared.remove.Remove.{Remove}
-use Rattle.exif_rewrite_jpeg.specs.Faults.{rewriting_refusals}
-use Rattle.exif_rewrite_jpeg.specs.JpegSteps.{strictly, strict_end}
-use Rattle.exif_rewrite_jpeg.specs.Passing.{Finishes, StopsBy}
-use Rattle.exif_rewrite_jpeg.specs.Rewriting.{Rewriting, finished, refused_by}
-use Rattle.exif_rewrite_jpeg.specs.RewrittenJpeg.{jpeg_rewriting}
+use Rattle.exif_rewrite.specs.RewrittenFile.{file_refusals, file_rewriting, heif_stays, rewriting_as, tiff_stays}
+use Rattle.exif_rewrite.specs.RewrittenJpeg.{jpeg_rewriting, jpeg_rewriting_refusals}
 use Rattle.exif_rewrite.specs.RewrittenWebp.{webp_rewriting, webp_rewriting_refusals}
-use Rattle.exif_rewrite.specs.WebpPlans.{StopsFile, sent_of}
-use Rattle.exif_rewrite.specs.RewrittenFile.{at_once, file_refusals, file_rewriting, heif_stays, rewriting_as, tiff_stays}
 
 -- ---- the head
 
+-- what holds of the head's choice holds of the file's
+pub head_holds : (P : Option Format → Type 0) (n : ℕ) (block : List ℕ) (format : Option Format) (a b : Option (List ℕ))
+    → Consumes a b (take n block) → n ≤ length block → length block ≡ 4096 → (n < length block → IsAtEnd b)
+    → format ≡ format_in (take n block) → P format
+    → IfSome a (λ bytes. P (format_in (take 4096 bytes)))
+head_holds P n block format None b h bound len end f g = tt
+head_holds P n block format (Some xs) None h bound len end f g = absurd h
+head_holds P n block format (Some xs) (Some ys) h bound len end f g =
+    let taken : length (take n block) ≡ n = length-take-le n block bound in
+    rw (h, head-first (take n block) ys (omega arith) (λ lt. end (omega arith)), ← f) g
+
 -- what holds of what the bytes become by the head's choice holds of what the file becomes
-pub file_holds : (P : Rewriting → Type 0) (remove : Remove) (put : Option (List ℕ)) (n : ℕ) (block : List ℕ) (format : Option Format) (a b left : Option (List ℕ))
+pub file_holds : (P : Result (List ℕ) Refusal → Type 0) (remove : Remove) (put : Option (List ℕ)) (n : ℕ) (block : List ℕ) (format : Option Format) (a b left : Option (List ℕ))
     → Consumes a b (take n block) → n ≤ length block → length block ≡ 4096 → (n < length block → IsAtEnd b)
     → format ≡ format_in (take n block)
     → left ≡ prepend_known (take n block) b
@@ -40,100 +44,48 @@ file_holds P remove put n block format (Some xs) (Some ys) left h bound len end 
     let taken : length (take n block) ≡ n = length-take-le n block bound in
     rw (h, head-first (take n block) ys (omega arith) (λ lt. end (omega arith)), ← f) whole
 
--- the head's choice is the file's
-pub file_chosen : (n : ℕ) (block : List ℕ) (format chosen : Option Format) (a b : Option (List ℕ))
-    → Consumes a b (take n block) → n ≤ length block → length block ≡ 4096 → (n < length block → IsAtEnd b)
-    → format ≡ format_in (take n block) → format ≡ chosen
-    → IfSome a (λ bytes. format_in (take 4096 bytes) ≡ chosen)
-file_chosen n block format chosen None b h bound len end f e = tt
-file_chosen n block format chosen (Some xs) None h bound len end f e = absurd h
-file_chosen n block format chosen (Some xs) (Some ys) h bound len end f e =
-    let taken : length (take n block) ≡ n = length-take-le n block bound in
-    rw (h, head-first (take n block) ys (omega arith) (λ lt. end (omega arith))) (sym f ∙ e)
+-- ---- what a container's call says
 
--- ---- JPEG streams
+-- what a call says of a file that it wrote, where the two definitions agree
+pub sent_as : {T : Type 0} (P : Result (List ℕ) Refusal → Type 0) (result : Result T Failure) (a : Option (List ℕ)) (f g : List ℕ → Result (List ℕ) Refusal) → ((xs : List ℕ) → g xs ≡ f xs)
+    → OnOk result (IfSome a (λ xs. P (f xs))) → OnOk result (IfSome a (λ xs. P (g xs)))
+sent_as P (Err e) a f g is h = tt
+sent_as P (Ok u) None f g is h = tt
+sent_as P (Ok u) (Some xs) f g is h = subst P (sym (is xs)) h
 
--- where the head says JPEG and the new stream was sent whole, the new file was sent whole
-pub jpeg_sent : {T : Type 0} (result : Result T Failure) (format : Option Format) (remove : Remove) (put : Option (List ℕ)) (a p q : Option (List ℕ)) → format ≡ Some Jpeg
-    → OnOk result (Finishes finished a p q (λ xs. jpeg_rewriting remove put (take (2 ^ 64 - 1) xs)))
-    → OnOk result (Finishes finished a p q (rewriting_as format remove put))
+-- and of one that it stopped at
+pub stopped_as : {T : Type 0} (P : Failure → Result (List ℕ) Refusal → Type 0) (result : Result T Failure) (a : Option (List ℕ)) (f g : List ℕ → Result (List ℕ) Refusal) → ((xs : List ℕ) → g xs ≡ f xs)
+    → IfErr result (λ e. IfSome a (λ xs. P e (f xs))) → IfErr result (λ e. IfSome a (λ xs. P e (g xs)))
+stopped_as P (Ok u) a f g is h = tt
+stopped_as P (Err e) None f g is h = tt
+stopped_as P (Err e) (Some xs) f g is h = subst (P e) (sym (is xs)) h
+
+-- a JPEG file becomes what its definition says
+pub jpeg_as : (format : Option Format) (remove : Remove) (put : Option (List ℕ)) → format ≡ Some Jpeg → (xs : List ℕ) → rewriting_as format remove put xs ≡ jpeg_rewriting remove put xs
 unfolding rewriting_as
-jpeg_sent (Err e) format remove put a p q is h = tt
-jpeg_sent (Ok u) format remove put a p q is h = subst (λ t. Finishes finished a p q (rewriting_as t remove put)) (sym is) (by a h)
-  where
-    by : (a : Option (List ℕ)) → Finishes finished a p q (λ xs. jpeg_rewriting remove put (take (2 ^ 64 - 1) xs)) → Finishes finished a p q (λ xs. strictly (jpeg_rewriting remove put (take (2 ^ 64 - 1) xs)))
-    by None h = tt
-    by (Some xs) h = (ap strict_end h.0, h.1)
+jpeg_as format remove put is xs = rw is
 
--- where the head says JPEG, an error that stops the strict stream stops the file
-pub jpeg_stopped : {T : Type 0} (result : Result T Failure) (format : Option Format) (remove : Remove) (put : Option (List ℕ)) (a p q : Option (List ℕ)) → format ≡ Some Jpeg
-    → IfErr result (λ e. StopsBy (refusal_of e) a p q (λ xs. strictly (jpeg_rewriting remove put (take (2 ^ 64 - 1) xs))))
-    → IfErr result (λ e. StopsBy (refusal_of e) a p q (rewriting_as format remove put))
+-- and so does a WebP file
+pub webp_as : (format : Option Format) (remove : Remove) (put : Option (List ℕ)) → format ≡ Some WebP → (xs : List ℕ) → rewriting_as format remove put xs ≡ webp_rewriting remove put xs
 unfolding rewriting_as
-jpeg_stopped (Ok u) format remove put a p q is h = tt
-jpeg_stopped (Err e) format remove put a p q is h = subst (λ t. StopsBy (refusal_of e) a p q (rewriting_as t remove put)) (sym is) h
-
--- ---- WebP files
-
--- a settled file that was sent whole
-whole_at_once : (o : Result (List ℕ) Refusal) (p q : Option (List ℕ)) (text : List ℕ) → o ≡ Ok text → Appends p q text → ((at_once o).end ≡ finished) × Appends p q (at_once o).out
-whole_at_once o p q text is h = subst (λ t. ((at_once t).end ≡ finished) × Appends p q (at_once t).out) (sym is) (refl, h)
-
--- where the head says WebP and the new WebP file was sent whole, the new file was sent whole
-pub webp_sent : {T : Type 0} (result : Result T Failure) (format : Option Format) (remove : Remove) (put : Option (List ℕ)) (a p q : Option (List ℕ)) → format ≡ Some WebP
-    → OnOk result (IfSome a (λ xs. (text : List ℕ) × (webp_rewriting remove put xs ≡ Ok text) × Appends p q text))
-    → OnOk result (Finishes finished a p q (rewriting_as format remove put))
-unfolding rewriting_as
-webp_sent (Err e) format remove put a p q is h = tt
-webp_sent (Ok u) format remove put a p q is h = subst (λ t. Finishes finished a p q (rewriting_as t remove put)) (sym is) (by a h)
-  where
-    by : (a : Option (List ℕ)) → IfSome a (λ xs. (text : List ℕ) × (webp_rewriting remove put xs ≡ Ok text) × Appends p q text) → Finishes finished a p q (λ xs. at_once (webp_rewriting remove put xs))
-    by None h = tt
-    by (Some xs) h = whole_at_once (webp_rewriting remove put xs) p q h.0 h.1 h.2
-
--- a settled file that stopped
-stopped_at_once : (o : Result (List ℕ) Refusal) (r : Option Refusal) (p q : Option (List ℕ)) → SendsFront p q (sent_of o) → MatchOption r (Unit {0}) (λ r. o ≡ Err r)
-    → SendsFront p q (at_once o).out × MatchOption r (Unit {0}) (λ r. (at_once o).end ≡ refused_by r)
-stopped_at_once (Ok text) None p q h is = (h, tt)
-stopped_at_once (Ok text) (Some r) p q h is = absurd (cc)
-stopped_at_once (Err s) None p q h is = (h, tt)
-stopped_at_once (Err s) (Some r) p q h is = (h, (let same : s ≡ r = cc in ap refused_by same))
-
--- where the head says WebP, an error that stops the WebP file stops the file
-pub webp_stopped : {T : Type 0} (result : Result T Failure) (format : Option Format) (remove : Remove) (put : Option (List ℕ)) (a p q : Option (List ℕ)) → format ≡ Some WebP
-    → IfErr result (λ e. IfSome a (λ xs. StopsFile e p q (webp_rewriting remove put xs)))
-    → IfErr result (λ e. StopsBy (refusal_of e) a p q (rewriting_as format remove put))
-unfolding rewriting_as
-webp_stopped (Ok u) format remove put a p q is h = tt
-webp_stopped (Err e) format remove put a p q is h = subst (λ t. StopsBy (refusal_of e) a p q (rewriting_as t remove put)) (sym is) (by a h)
-  where
-    by : (a : Option (List ℕ)) → IfSome a (λ xs. StopsFile e p q (webp_rewriting remove put xs)) → StopsBy (refusal_of e) a p q (λ xs. at_once (webp_rewriting remove put xs))
-    by None h = tt
-    by (Some xs) h = stopped_at_once (webp_rewriting remove put xs) (refusal_of e) p q h.0 h.1
+webp_as format remove put is xs = rw is
 
 -- ---- files that are refused by their head
 
--- a file that its head alone refuses is stopped by that refusal, with nothing sent
-pub refused_by_head : (r : Refusal) (format : Option Format) (remove : Remove) (put : Option (List ℕ)) (a p : Option (List ℕ))
-    → ((xs : List ℕ) → rewriting_as format remove put xs ≡ at_once (Err r))
-    → StopsBy (Some r) a p p (rewriting_as format remove put)
-refused_by_head r format remove put None p is = tt
-refused_by_head r format remove put (Some xs) p is = rw (is xs) (front_none p p [] (keeps_same p), refl)
-
 -- a HEIF file is refused before its first byte, since it is edited in place
-pub heif_refused : (format : Option Format) (remove : Remove) (put : Option (List ℕ)) (xs : List ℕ) → format ≡ Some Heif → rewriting_as format remove put xs ≡ at_once (Err heif_stays)
+pub heif_refused : (format : Option Format) (remove : Remove) (put : Option (List ℕ)) → format ≡ Some Heif → (xs : List ℕ) → rewriting_as format remove put xs ≡ Err heif_stays
 unfolding rewriting_as
-heif_refused format remove put xs is = rw is
+heif_refused format remove put is xs = rw is
 
 -- a file of TIFF data is refused before its first byte, since it is edited in place
-pub tiff_refused : (format : Option Format) (remove : Remove) (put : Option (List ℕ)) (xs : List ℕ) → format ≡ Some Tiff → rewriting_as format remove put xs ≡ at_once (Err tiff_stays)
+pub tiff_refused : (format : Option Format) (remove : Remove) (put : Option (List ℕ)) → format ≡ Some Tiff → (xs : List ℕ) → rewriting_as format remove put xs ≡ Err tiff_stays
 unfolding rewriting_as
-tiff_refused format remove put xs is = rw is
+tiff_refused format remove put is xs = rw is
 
 -- a file of no known container is refused before its first byte, for its unknown format
-pub unknown_refused : (format : Option Format) (remove : Remove) (put : Option (List ℕ)) (xs : List ℕ) → format ≡ None → rewriting_as format remove put xs ≡ at_once (Err unknown_format)
+pub unknown_refused : (format : Option Format) (remove : Remove) (put : Option (List ℕ)) → format ≡ None → (xs : List ℕ) → rewriting_as format remove put xs ≡ Err unknown_format
 unfolding rewriting_as
-unknown_refused format remove put xs is = rw is
+unknown_refused format remove put is xs = rw is
 
 -- ---- all refusals are named
 
@@ -141,12 +93,12 @@ unknown_refused format remove put xs is = rw is
 by_head : List Refusal
 by_head = unknown_format ∷ tiff_stays ∷ heif_stays ∷ []
 
--- an error that is named for JPEG streams is named for files
-pub jpeg_named : {T : Type 0} (result : Result T Failure) → IfErr result (IsNamed rewriting_refusals) → IfErr result (IsNamed file_refusals)
+-- an error that is named for JPEG files is named for files
+pub jpeg_named : {T : Type 0} (result : Result T Failure) → IfErr result (IsNamed jpeg_rewriting_refusals) → IfErr result (IsNamed file_refusals)
 unfolding by_head
-jpeg_named = more_named rewriting_refusals file_refusals (λ r h. Contains-append_right by_head (rewriting_refusals ++ webp_rewriting_refusals) r (Contains-append_left rewriting_refusals webp_rewriting_refusals r h))
+jpeg_named = more_named jpeg_rewriting_refusals file_refusals (λ r h. Contains-append_right by_head (jpeg_rewriting_refusals ++ webp_rewriting_refusals) r (Contains-append_left jpeg_rewriting_refusals webp_rewriting_refusals r h))
 
 -- an error that is named for WebP files is named for files
 pub webp_named : {T : Type 0} (result : Result T Failure) → IfErr result (IsNamed webp_rewriting_refusals) → IfErr result (IsNamed file_refusals)
 unfolding by_head
-webp_named = more_named webp_rewriting_refusals file_refusals (λ r h. Contains-append_right by_head (rewriting_refusals ++ webp_rewriting_refusals) r (Contains-append_right rewriting_refusals webp_rewriting_refusals r h))
+webp_named = more_named webp_rewriting_refusals file_refusals (λ r h. Contains-append_right by_head (jpeg_rewriting_refusals ++ webp_rewriting_refusals) r (Contains-append_right jpeg_rewriting_refusals webp_rewriting_refusals r h))

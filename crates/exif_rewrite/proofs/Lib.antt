@@ -1,7 +1,9 @@
 pub mod FileAnswers
 pub mod FileHeads
 pub mod FileSteps
+pub mod JpegSteps
 pub mod ScrubbedSteps
+pub mod SendingFiles
 pub mod WebpAnswers
 pub mod WebpLaws
 pub mod WebpSteps

@@ -1,28 +1,24 @@
 -- The steps over the chunks of a WebP file.
-use Rattle.std.proofs.Common.{◌≡◌, ◌≢◌, ℕ, zero, suc, ◌+◌, ◌-◌, ◌<◌, ◌≤◌, Bool, true, false, cond, eqb, ltb, List, [], ◌∷◌, ◌++◌, length, map, take, drop, get_or, Option, None, Some, IfSome, MatchOption, Result, Ok, Err, IfOk, ap, sym, ◌∙◌, refl, arith, append_assoc, append-nil, length-append, codes}
+use Rattle.std.proofs.Common.{◌≡◌, ◌≢◌, ℕ, zero, suc, ◌+◌, ◌-◌, ◌<◌, ◌≤◌, Bool, true, false, cond, eqb, ltb, List, [], ◌∷◌, ◌++◌, length, map, take, drop, get_or, Option, None, Some, MatchOption, Result, Ok, Err, IfOk, ap, sym, ◌∙◌, refl, arith, append_assoc, append-nil, length-append, codes}
 use Rattle.std.specs.List.{flat_map, filter, Contains}
 use Rattle.std.specs.Int.{to_le_bytes, w32}
-use Rattle.std.specs.Io.KnownBytes.{Appends, Keeps}
 use Rattle.std.proofs.lemmas.Bool.{ne_eqb, le-ltb}
 use Rattle.std.proofs.lemmas.Bool.Decides.{nat_tests}
 use Rattle.std.proofs.lemmas.List.{take_rest, take-append-drop, map-append}
 use Rattle.std.proofs.lemmas.List.Concat.{flat_map-append}
 use Rattle.byteorder.specs.Endian.{little_number}
-use Rattle.exif_base.specs.Sent.{SendsFront}
-use Rattle.exif_base.proofs.Sent.{appends_kept, front_none, keeps_same}
 use Rattle.exif_types.specs.Failures.{Failure}
 use Rattle.exif_types.specs.declared.error.Error.TheVariants as error
 use Rattle.exif_types.specs.Refusals.{Refusal, refusal_of, IsInterrupted, Refuses, Fails, ◌>>=◌}
 use Rattle.exif_segments.specs.Answer.{IsNamed}
 use Rattle.exif_segments.specs.Webp.{broken_webp, not_webp, invalid_file_size, overflowing, padded}
-use Rattle.exif_segments.proofs.Interruptions.{interrupted_none}
 use Rattle.exif_segments.specs.declared.remove.Remove.{Remove}
 use Rattle.exif_rewrite.specs.declared.webp.chunks.Chunk.{Chunk as LentChunk}
 use Rattle.exif_rewrite.specs.declared.webp.chunks.Front.{Front as LentFront}
 use Rattle.exif_segments.specs.Removing.{too_large, behind}
 use Rattle.exif_rewrite.specs.RewrittenWebp.{is, chunk_stays, staying, flagged, settled, lossy, lossless, or_none, no_canvas, canvas_where, chunk_named, is_put, new_chunks, sized, file_of, webp_rewriting, webp_rewriting_refusals}
 use Rattle.exif_rewrite.specs.WebpChunks.{Chunk, Front, Body, in_front, chunk_of, first_chunk, body_within, body_of, header_space, file_body, pad_of, chunk_text, chunks_text, file_text}
-use Rattle.exif_rewrite.specs.WebpPlans.{chunk_view, kept_body, kept_file, staying_in, settled_text, header_text, named_text, StopsFile, sent_of}
+use Rattle.exif_rewrite.specs.WebpPlans.{chunk_view, kept_body, kept_file, staying_in, settled_text, header_text, named_text}
 
 -- what a slice of chunks gives past its end
 abbrev pub no_chunk : LentChunk
@@ -331,45 +327,6 @@ pub canvas_text_len : (p : List ℕ) → length p ≡ 10 → length (named_text 
 canvas_text_len p e =
     let k : length ((p ++ pad_of (length p)) ++ []) ≡ 10 = ap (λ (t : List ℕ). length t) (append-nil (p ++ pad_of (length p)) ∙ ap (λ n. p ++ pad_of n) e ∙ append-nil p) ∙ e in
     omega (arith, k)
-
--- ---- what an error left
-
-nothing_sent : (o : Result (List ℕ) Refusal) (p : Option (List ℕ)) → SendsFront p p (sent_of o)
-nothing_sent o p = front_none p p (sent_of o) (keeps_same p)
-
--- a file's own refusal, or an interruption, stops it where nothing was sent
-pub fails_stops : (e : Failure) (p : Option (List ℕ)) (o : Result (List ℕ) Refusal) → Fails e o → StopsFile e p p o
-fails_stops e p o h = (nothing_sent o p, by (refusal_of e) h)
-  where
-    by : (r : Option Refusal) → MatchOption r (IsInterrupted e) (λ r. o ≡ Err r) → MatchOption r (Unit {0}) (λ r. o ≡ Err r)
-    by None h = tt
-    by (Some r) h = h
-
--- an interruption before anything was sent stops the source's file, whatever it becomes
-pub interrupted_stops : (e : Failure) (a p : Option (List ℕ)) (f : List ℕ → Result (List ℕ) Refusal) → IsInterrupted e → IfSome a (λ xs. StopsFile e p p (f xs))
-interrupted_stops e None p f h = tt
-interrupted_stops e (Some x) p f h = rw (interrupted_none e h) (nothing_sent (f x) p, tt)
-
--- an interruption is none of the refusals that a file may meet, and is named so
-pub interrupted_named : (e : Failure) → IsInterrupted e → IsNamed webp_rewriting_refusals e
-interrupted_named e h = rw (interrupted_none e h) h
-
--- where the bytes read are all of the source, their error stops its file with nothing sent
-pub plan_stops : (e : Failure) (a p : Option (List ℕ)) (bytes : List ℕ) (f : List ℕ → Result (List ℕ) Refusal) → IfSome a (λ xs. bytes ≡ xs) → Fails e (f bytes) → IfSome a (λ xs. StopsFile e p p (f xs))
-plan_stops e None p bytes f is h = tt
-plan_stops e (Some x) p bytes f is h = rw (sym is) (fails_stops e p (f bytes) h)
-
--- an error that is no refusal, once a front of the new file was sent, stops the file
-pub send_stops : (e : Failure) (a p q : Option (List ℕ)) (bytes text : List ℕ) (f : List ℕ → Result (List ℕ) Refusal) → IfSome a (λ xs. bytes ≡ xs) → f bytes ≡ Ok text → refusal_of e ≡ None → SendsFront p q text
-    → IfSome a (λ xs. StopsFile e p q (f xs))
-send_stops e None p q bytes text f is h none s = tt
-send_stops e (Some x) p q bytes text f is h none s = rw (sym is) (rw (none, h) (s, tt))
-
--- where the sink took and kept all that the source's bytes become, the new file was sent whole
-pub file_sent : (a p q r : Option (List ℕ)) (bytes text : List ℕ) (f : List ℕ → Result (List ℕ) Refusal) → IfSome a (λ xs. bytes ≡ xs) → f bytes ≡ Ok text → Appends p q text → Keeps q r
-    → IfSome a (λ xs. (text : List ℕ) × (f xs ≡ Ok text) × Appends p r text)
-file_sent None p q r bytes text f is h s k = tt
-file_sent (Some x) p q r bytes text f is h s k = (text, rw (sym is) h, appends_kept p q r text s k)
 
 -- ---- all refusals are named
 

@@ -1,9 +1,12 @@
 pub mod Color
 pub mod ColorExamples
 pub mod FileLaws
+pub mod JpegExamples
 pub mod RewrittenFile
-pub mod ScrubbedExif
+pub mod RewrittenJpeg
 pub mod RewrittenWebp
+pub mod ScrubbedExif
+pub mod SentFiles
 pub mod WebpChunks
 pub mod WebpExamples
 pub mod WebpLaws

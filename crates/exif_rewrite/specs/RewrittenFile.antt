@@ -1,14 +1,11 @@
 -- A file written again, as its first 4096 bytes say which container it is.
-use Rattle.std.specs.Prelude.{ℕ, ◌-◌, ◌^◌, List, [], ◌∷◌, ◌++◌, take, codes, Option, None, Some, Result, Ok, Err}
+use Rattle.std.specs.Prelude.{◌≡◌, ◌⊎◌, ℕ, List, ◌∷◌, ◌++◌, take, codes, Option, None, Some, Result, Err}
 use Rattle.exif_types.specs.Refusals.{Refusal, not_supported}
 use Rattle.exif_containers.specs.declared.container.Format.{Format}
 use Rattle.exif_containers.specs.declared.container.Format.TheVariants.{Tiff, Jpeg, Heif, WebP}
 use Rattle.exif_containers.specs.Container.{format_in, unknown_format}
 use Rattle.exif_segments.specs.declared.remove.Remove.{Remove}
-use Rattle.exif_rewrite_jpeg.specs.Faults.{rewriting_refusals}
-use Rattle.exif_rewrite_jpeg.specs.JpegSteps.{strictly}
-use Rattle.exif_rewrite_jpeg.specs.Rewriting.{Rewriting, ends, finished, refused_by}
-use Rattle.exif_rewrite_jpeg.specs.RewrittenJpeg.{jpeg_rewriting}
+use Rattle.exif_rewrite.specs.RewrittenJpeg.{jpeg_rewriting, jpeg_rewriting_refusals}
 use Rattle.exif_rewrite.specs.RewrittenWebp.{webp_rewriting, webp_rewriting_refusals}
 
 -- what TIFF data and HEIF files hold is found by its offset in the file
@@ -22,22 +19,22 @@ heif_stays = not_supported (codes "HEIF files are edited in place")
 -- all refusals of a file that is written again
 abbrev pub file_refusals : List Refusal
 file_refusals =
-    unknown_format ∷ tiff_stays ∷ heif_stays ∷ (rewriting_refusals ++ webp_rewriting_refusals)
+    unknown_format ∷ tiff_stays ∷ heif_stays
+    ∷ (jpeg_rewriting_refusals ++ webp_rewriting_refusals)
 
--- a file that is settled before its first byte: all of it, or its refusal and nothing
-abbrev pub at_once : Result (List ℕ) Refusal → Rewriting
-at_once (Ok text) = ends finished text
-at_once (Err r) = ends (refused_by r) []
+-- the containers of files that are written again, for which files are held in memory
+abbrev pub IsRewritten : Option Format → Type 0
+IsRewritten format = (format ≡ Some Jpeg) ⊎ (format ≡ Some WebP)
 
--- what the bytes of a container become; a JPEG stream ends after 2^64 - 1 bytes
-unfoldable pub rewriting_as : Option Format → Remove → Option (List ℕ) → List ℕ → Rewriting
-rewriting_as (Some Jpeg) remove put bytes =
-    strictly (jpeg_rewriting remove put (take (2 ^ 64 - 1) bytes))
-rewriting_as (Some WebP) remove put bytes = at_once (webp_rewriting remove put bytes)
-rewriting_as (Some Heif) remove put bytes = at_once (Err heif_stays)
-rewriting_as (Some Tiff) remove put bytes = at_once (Err tiff_stays)
-rewriting_as None remove put bytes = at_once (Err unknown_format)
+-- what the bytes of a container become
+unfoldable pub rewriting_as : Option Format → Remove → Option (List ℕ) → List ℕ
+    → Result (List ℕ) Refusal
+rewriting_as (Some Jpeg) remove put bytes = jpeg_rewriting remove put bytes
+rewriting_as (Some WebP) remove put bytes = webp_rewriting remove put bytes
+rewriting_as (Some Heif) remove put bytes = Err heif_stays
+rewriting_as (Some Tiff) remove put bytes = Err tiff_stays
+rewriting_as None remove put bytes = Err unknown_format
 
 -- the first 4096 bytes, or all if there are fewer, choose
-unfoldable pub file_rewriting : Remove → Option (List ℕ) → List ℕ → Rewriting
+unfoldable pub file_rewriting : Remove → Option (List ℕ) → List ℕ → Result (List ℕ) Refusal
 file_rewriting remove put bytes = rewriting_as (format_in (take 4096 bytes)) remove put bytes

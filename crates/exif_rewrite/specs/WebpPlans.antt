@@ -1,10 +1,8 @@
 -- What a clause sees of a WebP file that is read, and of one that is to be written.
-use Rattle.std.specs.Prelude.{◌≡◌, ℕ, Bool, List, [], ◌++◌, map, codes, Option, Result, Ok, Err, MatchOption}
+use Rattle.std.specs.Prelude.{ℕ, Bool, List, ◌++◌, map, codes, Option, Result, Ok}
 use Rattle.std.specs.Int.{to_le_bytes, w32}
 use Rattle.std.specs.List.{flat_map}
-use Rattle.exif_base.specs.Sent.{SendsFront}
-use Rattle.exif_types.specs.Failures.{Failure}
-use Rattle.exif_types.specs.Refusals.{Refusal, refusal_of, ◌>>=◌}
+use Rattle.exif_types.specs.Refusals.{Refusal, ◌>>=◌}
 use Rattle.exif_segments.specs.declared.remove.Remove.{Remove}
 use Rattle.exif_rewrite.specs.declared.webp.chunks.Chunk.{Chunk as LentChunk}
 use Rattle.exif_rewrite.specs.declared.webp.chunks.Front.{Front as LentFront}
@@ -59,15 +57,3 @@ plan_view p =
     header_text p.size ++ (named_text (codes "VP8X") p.canvas
     ++ (flat_map (settled_text p.remove (is_put (payload_of p.put))) p.chunks.items
     ++ (named_text (codes "EXIF") (payload_of p.put) ++ p.tail.now)))
-
--- what is sent of a file: nothing where it is refused
-abbrev pub sent_of : Result (List ℕ) Refusal → List ℕ
-sent_of (Ok text) = text
-sent_of (Err r) = []
-
--- what an error left: a front of the file, and a refusal is the file's
-abbrev pub StopsFile : Failure → Option (List ℕ) → Option (List ℕ)
-    → Result (List ℕ) Refusal → Type 0
-StopsFile e taken taken' answer =
-    SendsFront taken taken' (sent_of answer)
-    × MatchOption (refusal_of e) (Unit {0}) (λ r. answer ≡ Err r)

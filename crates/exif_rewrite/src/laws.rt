@@ -1,14 +1,12 @@
-//! Laws of files that are written again, whatever container they are. Those of each container are
-//! in its crate.
+//! Laws of files that are written again, whatever container they are. Those of JPEG files are in
+//! `exif_parts`, those of WebP files in `webp::laws`.
 
 ghost use Rattle.std.specs.Prelude.{ℕ, List, Option};
 ghost use Rattle.exif_segments.specs.declared.remove.Remove.{Remove};
 ghost use Rattle.exif_rewrite.specs.FileLaws.{IsFound, IsSettled};
 
 use crate::webp::laws::{webp_answers_what_was_put, webp_twice_is_once};
-use exif_rewrite_jpeg::laws::{
-    jpeg_answers_what_was_put, jpeg_keeps_what_stays, jpeg_twice_is_once,
-};
+use exif_parts::laws::{jpeg_answers_what_was_put, jpeg_twice_is_once};
 
 /// Reading a file that was written again finds the new Exif data, or that there are none.
 pub fn file_answers_what_was_put()
@@ -16,7 +14,6 @@ pub fn file_answers_what_was_put()
         → IsFound remove put bytes }
 {
     jpeg_answers_what_was_put();
-    jpeg_keeps_what_stays();
     webp_answers_what_was_put();
 }
 
@@ -25,7 +22,6 @@ pub fn file_twice_is_once()
     ensures { (remove : Remove) (put : Option (List ℕ)) (bytes : List ℕ)
         → IsSettled remove put bytes }
 {
-    jpeg_keeps_what_stays();
     jpeg_twice_is_once();
     webp_answers_what_was_put();
     webp_twice_is_once();

@@ -10,7 +10,6 @@ mod changes;
 mod edits;
 mod memory;
 mod modes;
-mod parts;
 mod readings;
 mod script;
 mod tables;

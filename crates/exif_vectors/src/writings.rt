@@ -29,9 +29,12 @@ pub fn rewritten<R: Source, W: Sink>(
         None => None,
     };
     match case.kind {
-        Kind::Jpeg => end_of(alloc, rewrite_jpeg(source, out, put, remove)),
+        Kind::Jpeg => end_of(alloc, rewrite_jpeg(alloc, source, out, put, remove)),
         Kind::WebP => end_of(alloc, rewrite_webp(alloc, source, out, put, remove)),
-        Kind::CutJpeg => end_of_cut(alloc, rewrite_jpeg_as_it_stands(source, out, put, remove)),
+        Kind::CutJpeg => {
+            let answer = rewrite_jpeg_as_it_stands(alloc, source, out, put, remove);
+            end_of_cut(alloc, answer)
+        }
         _ => end_of(alloc, rewrite(alloc, source, out, put, remove)),
     }
 }

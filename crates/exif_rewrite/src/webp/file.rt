@@ -1,13 +1,13 @@
 //! A WebP file written again (WebP Container Specification, "Extended File Format", "Metadata").
 
-ghost use Rattle.std.specs.Prelude.{◌≡◌, ℕ, List, Ok, false, OnOk, IfErr, IfSome};
-ghost use Rattle.std.specs.Io.KnownBytes.{Appends, Keeps};
+ghost use Rattle.std.specs.Prelude.{◌≡◌, false, OnOk, IfErr, IfSome};
+ghost use Rattle.std.specs.Io.KnownBytes.{Keeps};
 ghost use Rattle.exif_base.specs.Device.{CountsBoth};
 ghost use Rattle.exif_types.specs.Refusals.{is_io, is_io_error};
 ghost use Rattle.exif_segments.specs.Answer.{IsNamed};
 ghost use Rattle.exif_segments.specs.Removing.{payload_of};
 ghost use Rattle.exif_rewrite.specs.RewrittenWebp.{webp_rewriting, webp_rewriting_refusals};
-ghost use Rattle.exif_rewrite.specs.WebpPlans.{StopsFile};
+ghost use Rattle.exif_rewrite.specs.SentFiles.{IsSent, StopsFile};
 
 use crate::webp::plan::plan_file;
 use crate::webp::send::send_plan;
@@ -41,9 +41,9 @@ pub fn rewrite_webp<R: Source, W: Sink>(
     put: Option<&[u8]>,
     remove: Remove,
 ) -> Result<(), Error>
-    ensures sent { OnOk result (IfSome (R.left source.old) (λ xs. (text : List ℕ)
-        × (webp_rewriting remove (payload_of put.entry) xs ≡ Ok text)
-        × Appends (W.taken out.old) (W.taken out.new) text)) }
+    ensures sent { OnOk result (IfSome (R.left source.old)
+        (λ xs. IsSent (W.taken out.old) (W.taken out.new)
+        (webp_rewriting remove (payload_of put.entry) xs))) }
     ensures stopped { IfErr result (λ e. IfSome (R.left source.old)
         (λ xs. StopsFile e (W.taken out.old) (W.taken out.new)
         (webp_rewriting remove (payload_of put.entry) xs))) }

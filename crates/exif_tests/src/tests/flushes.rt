@@ -59,14 +59,16 @@ fn file_of(alloc: Global, bytes: &[u8]) -> Counted<Noted> {
 
 #[test]
 fn one_flush_behind_the_last_byte(rt: HostRuntime) -> Result<(), Fail> {
+    let alloc = rt.alloc();
     let mut stream = writer();
-    rewrite_jpeg(&mut Counted::new(STREAM), &mut stream, PUT, REMOVE)?;
+    rewrite_jpeg(alloc, &mut Counted::new(STREAM), &mut stream, PUT, REMOVE)?;
     assert!(rt; is_flushed(stream, 21));
     let mut cut = writer();
-    rewrite_jpeg_as_it_stands(&mut Counted::new(&STREAM[..7]), &mut cut, PUT, REMOVE)?;
+    let mut front = Counted::new(&STREAM[..7]);
+    rewrite_jpeg_as_it_stands(alloc, &mut front, &mut cut, PUT, REMOVE)?;
     assert!(rt; is_flushed(cut, 19));
     let mut file = writer();
-    rewrite_webp(rt.alloc(), &mut Counted::new(FILE), &mut file, PUT, REMOVE)?;
+    rewrite_webp(alloc, &mut Counted::new(FILE), &mut file, PUT, REMOVE)?;
     assert!(rt; is_flushed(file, 54));
     Ok(())
 }

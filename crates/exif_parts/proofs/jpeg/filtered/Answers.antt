@@ -17,14 +17,14 @@ full_len-requires c =
     let rest = c.loop-rest.rest.now in
     subst (λ (q : Piece). full_len q ≤ length rest) (sym c.stream_piece-piece.ensures.value) (full_within c.loop-rest.scanned rest)
 
-pub returns-then-is_broken : goal.returns-then-is_broken
-returns-then-is_broken c =
+pub returns-then-is_broken-clause-gives : goal.returns-then-is_broken-clause-gives
+returns-then-is_broken-clause-gives c =
     runs_cut c.args.remove _ c.loop-rest.scanned c.loop-rest.left.now c.loop-rest.rest.now c.loop-rest.out.items c.stream_piece-piece.result c.loop-rest.invariant (grind (arith, nat_tests)) c.stream_piece-piece.ensures.value
     (sym c.is_broken.ensures ∙ c.if-is_broken.true)
     ∙ ap (λ x. Ok x) (sym c.in_ok-finish.ensures)
 
-pub returns-in-Some : goal.returns-in-Some
-returns-in-Some c =
+pub returns-in-Some-clause-gives : goal.returns-in-Some-clause-gives
+returns-in-Some-clause-gives c =
     let rest = c.loop-rest.rest.now in
     let piece = c.stream_piece-piece.result in
     runs_flawed c.args.remove _ c.loop-rest.scanned c.loop-rest.left.now rest c.loop-rest.out.items piece c.split.result.0.now c.in-Some.flaw.now c.loop-rest.invariant (grind (arith, nat_tests)) c.stream_piece-piece.ensures.value
@@ -32,8 +32,8 @@ returns-in-Some c =
     (c.split.ensures.first ∙ ap (λ n. take n rest) c.full_len.ensures)
     (sym c.flaw.ensures ∙ ap (λ (o : Option (Bor (List ℕ))). option_map (λ (x : Bor (List ℕ)). x.now) o) c.in-Some.is)
 
-pub returns-then-is_end : goal.returns-then-is_end
-returns-then-is_end c =
+pub returns-then-is_end-clause-gives : goal.returns-then-is_end-clause-gives
+returns-then-is_end-clause-gives c =
     let rest = c.loop-rest.rest.now in
     let left = c.loop-rest.left.now in
     let out = c.loop-rest.out.items in
@@ -77,7 +77,7 @@ loop-rest-preserved c =
     (c.in_ok-add_kept.ensures ∙ ap (λ (x : List ℕ). x ++ kept c.args.remove piece.kind span) put)
     (c.pending-left.ensures ∙ ap (λ (b : Bool). pending b left) here))
 
-pub returns : goal.returns
-returns c =
+pub returns-clause-gives : goal.returns-clause-gives
+returns-clause-gives c =
     runs_over c.args.remove _ c.loop-rest.scanned c.loop-rest.left.now c.loop-rest.rest.now c.loop-rest.out.items c.loop-rest.invariant (grind (arith, nat_tests))
     ∙ ap (λ x. Ok x) (sym c.in_ok-finish-3.ensures)

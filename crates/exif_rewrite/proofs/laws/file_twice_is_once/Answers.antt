@@ -1,8 +1,6 @@
-use Rattle.std.proofs.Common.{◌-◌, ◌^◌, take}
 use Rattle.exif_rewrite.proofs.FileAnswers.{file_settled}
 use Rattle.exif_rewrite.proofs.laws.file_twice_is_once.Goals as goal
 
 pub returns : goal.returns
 returns c remove put bytes =
-    let counted = take (2 ^ 64 - 1) bytes in
-    file_settled remove put bytes (c.jpeg_keeps_what_stays.ensures remove put counted) (c.jpeg_twice_is_once.ensures remove put counted) (c.webp_answers_what_was_put.ensures remove put bytes) (c.webp_twice_is_once.ensures remove put bytes)
+    file_settled remove put bytes (c.jpeg_twice_is_once.ensures remove put bytes) (c.webp_answers_what_was_put.ensures remove put bytes) (c.webp_twice_is_once.ensures remove put bytes)

@@ -1,6 +1,6 @@
-//! A JPEG stream is rewritten without memory.
+//! A JPEG file is rewritten in memory.
 
-use super::sending;
+use super::{runs_out, sending};
 use exif::Counted;
 use exif_rewrite::{Remove, rewrite};
 use exif_test_support::shortage::{Outcome, in_turn};
@@ -21,7 +21,7 @@ fn rewriting(alloc: Global) -> Outcome {
 }
 
 #[test]
-fn a_stream_needs_no_memory(rt: HostRuntime) {
+fn rewriting_runs_out_of_memory(rt: HostRuntime) {
     let refused = in_turn(rt.alloc(), || rewriting(rt.alloc()));
-    assert!(rt; refused.expect(&rt, "enough memory") == 0);
+    runs_out(&rt, refused);
 }

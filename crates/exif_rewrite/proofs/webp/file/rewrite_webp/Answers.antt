@@ -1,12 +1,13 @@
-use Rattle.std.proofs.Common.{false, true, refl, sym, ◌∙◌}
+use Rattle.std.proofs.Common.{◌≡◌, false, true, Ok, refl, sym, ◌∙◌}
 use Rattle.std.proofs.lemmas.Result.{err_from_is_err_and}
 use Rattle.std.proofs.Math.Bool.{or-false}
-use Rattle.exif_base.proofs.Sent.{front_all, keeps_same}
+use Rattle.exif_base.proofs.Sent.{appends_kept, front_all, keeps_same}
 use Rattle.exif_segments.specs.Removing.{payload_of}
-use Rattle.exif_rewrite.specs.RewrittenWebp.{webp_rewriting}
+use Rattle.exif_rewrite.specs.RewrittenWebp.{webp_rewriting, webp_rewriting_refusals}
 use Rattle.exif_rewrite.specs.WebpPlans.{plan_view}
-use Rattle.exif_rewrite.proofs.WebpSteps.{interrupted_stops, interrupted_named, plan_stops, fails_named, send_stops, file_sent}
-use Rattle.exif_types.specs.Refusals.{is_io_error}
+use Rattle.exif_rewrite.proofs.SendingFiles.{file_sent, interrupted_fails, interrupted_named, made_stops, send_stops, when_read}
+use Rattle.exif_rewrite.proofs.WebpSteps.{fails_named}
+use Rattle.exif_types.specs.Refusals.{Fails, is_io_error}
 use Rattle.exif_types.specs.declared.error.Error.TheVariants as error
 use Rattle.exif_rewrite.proofs.webp.file.rewrite_webp.Goals as goal
 
@@ -18,7 +19,9 @@ returns-in_err-bytes-clause-sent g c =
 pub returns-in_err-bytes-clause-stopped : goal.returns-in_err-bytes-clause-stopped
 returns-in_err-bytes-clause-stopped g c =
     let p = err_from_is_err_and c.from_residual.result c.from_residual.ensures.1 in
-    rw (p.1, p.2) (interrupted_stops _ (g.R.Source.left c.args.source.now) _ (webp_rewriting c.args.remove (payload_of c.args.put)) c.in_err-bytes.ensures.interrupted)
+    let left = g.R.Source.left c.args.source.now in
+    let f = webp_rewriting c.args.remove (payload_of c.args.put) in
+    rw (p.1, p.2) (made_stops _ left _ f (interrupted_fails _ left f c.in_err-bytes.ensures.interrupted))
 
 pub returns-in_err-bytes-clause-kept : goal.returns-in_err-bytes-clause-kept
 returns-in_err-bytes-clause-kept g c =
@@ -28,7 +31,7 @@ returns-in_err-bytes-clause-kept g c =
 pub returns-in_err-bytes-clause-named : goal.returns-in_err-bytes-clause-named
 returns-in_err-bytes-clause-named g c =
     let p = err_from_is_err_and c.from_residual.result c.from_residual.ensures.1 in
-    rw (p.1, p.2) (interrupted_named _ c.in_err-bytes.ensures.interrupted)
+    rw (p.1, p.2) (interrupted_named webp_rewriting_refusals _ c.in_err-bytes.ensures.interrupted)
 
 pub returns-in_err-bytes-clause-count : goal.returns-in_err-bytes-clause-count
 returns-in_err-bytes-clause-count g c =
@@ -50,7 +53,10 @@ returns-in_err-plan-clause-sent g c =
 pub returns-in_err-plan-clause-stopped : goal.returns-in_err-plan-clause-stopped
 returns-in_err-plan-clause-stopped g c =
     let p = err_from_is_err_and c.from_residual-in_err-plan.result c.from_residual-in_err-plan.ensures.1 in
-    rw (p.1, p.2) (plan_stops _ (g.R.Source.left c.args.source.now) _ c.in_ok-bytes.bytes.items (webp_rewriting c.args.remove (payload_of c.args.put)) c.in_ok-bytes.ensures.taken (rw c.deref.ensures.value at c.in_err-plan.ensures.gives))
+    let left = g.R.Source.left c.args.source.now in
+    let f = webp_rewriting c.args.remove (payload_of c.args.put) in
+    rw (p.1, p.2) (made_stops _ left _ f
+    (when_read (λ xs. Fails c.in_err-plan.field-0.0 (f xs)) left c.in_ok-bytes.bytes.items c.in_ok-bytes.ensures.taken (rw c.deref.ensures.value at c.in_err-plan.ensures.gives)))
 
 pub returns-in_err-plan-clause-kept : goal.returns-in_err-plan-clause-kept
 returns-in_err-plan-clause-kept g c =
@@ -82,10 +88,11 @@ returns-in_err-send_plan-clause-sent g c =
 pub returns-in_err-send_plan-clause-stopped : goal.returns-in_err-send_plan-clause-stopped
 returns-in_err-send_plan-clause-stopped g c =
     let p = err_from_is_err_and c.from_residual-in_err-send_plan.result c.from_residual-in_err-send_plan.ensures.1 in
-    rw (p.1, p.2) (send_stops (error.Io c.in_err-send_plan.field-0.0) (g.R.Source.left c.args.source.now)
-    (g.W.Sink.taken c.args.out.now) _ c.in_ok-bytes.bytes.items (plan_view c.in_ok-plan.plan)
-    (webp_rewriting c.args.remove (payload_of c.args.put)) c.in_ok-bytes.ensures.taken
-    (rw c.deref.ensures.value at c.in_ok-plan.ensures.gives) refl c.in_err-send_plan.ensures.sends.front)
+    let left = g.R.Source.left c.args.source.now in
+    let f = webp_rewriting c.args.remove (payload_of c.args.put) in
+    rw (p.1, p.2) (send_stops (error.Io c.in_err-send_plan.field-0.0) left (g.W.Sink.taken c.args.out.now) _ (plan_view c.in_ok-plan.plan) f
+    (when_read (λ xs. f xs ≡ Ok (plan_view c.in_ok-plan.plan)) left c.in_ok-bytes.bytes.items c.in_ok-bytes.ensures.taken (rw c.deref.ensures.value at c.in_ok-plan.ensures.gives))
+    refl c.in_err-send_plan.ensures.sends.front)
 
 pub returns-in_err-send_plan-clause-kept : goal.returns-in_err-send_plan-clause-kept
 returns-in_err-send_plan-clause-kept g c =
@@ -116,9 +123,11 @@ returns-in_err-flush-clause-sent g c =
 pub returns-in_err-flush-clause-stopped : goal.returns-in_err-flush-clause-stopped
 returns-in_err-flush-clause-stopped g c =
     let p = err_from_is_err_and c.from_residual-in_err-flush.result c.from_residual-in_err-flush.ensures.1 in
-    rw (p.1, p.2) (send_stops (error.Io c.in_err-flush.field-0.0) (g.R.Source.left c.args.source.now) (g.W.Sink.taken c.args.out.now) _ c.in_ok-bytes.bytes.items (plan_view c.in_ok-plan.plan) (webp_rewriting c.args.remove (payload_of c.args.put))
-    c.in_ok-bytes.ensures.taken (rw c.deref.ensures.value at c.in_ok-plan.ensures.gives) refl
-    (front_all _ (g.W.Sink.taken c.send_plan.new.out) _ (plan_view c.in_ok-plan.plan) c.in_ok-send_plan.ensures.sends.sent c.in_err-flush.ensures.bytes))
+    let left = g.R.Source.left c.args.source.now in
+    let f = webp_rewriting c.args.remove (payload_of c.args.put) in
+    rw (p.1, p.2) (send_stops (error.Io c.in_err-flush.field-0.0) left (g.W.Sink.taken c.args.out.now) _ (plan_view c.in_ok-plan.plan) f
+    (when_read (λ xs. f xs ≡ Ok (plan_view c.in_ok-plan.plan)) left c.in_ok-bytes.bytes.items c.in_ok-bytes.ensures.taken (rw c.deref.ensures.value at c.in_ok-plan.ensures.gives))
+    refl (front_all _ (g.W.Sink.taken c.send_plan.new.out) _ (plan_view c.in_ok-plan.plan) c.in_ok-send_plan.ensures.sends.sent c.in_err-flush.ensures.bytes))
 
 pub returns-in_err-flush-clause-kept : goal.returns-in_err-flush-clause-kept
 returns-in_err-flush-clause-kept g c =
@@ -144,8 +153,11 @@ returns-in_err-flush-clause-written_through g c = c.in_err-flush.ensures.same �
 
 pub returns-clause-sent : goal.returns-clause-sent
 returns-clause-sent g c =
-    file_sent (g.R.Source.left c.args.source.now) (g.W.Sink.taken c.args.out.now) (g.W.Sink.taken c.send_plan.new.out) _ c.in_ok-bytes.bytes.items (plan_view c.in_ok-plan.plan) (webp_rewriting c.args.remove (payload_of c.args.put))
-    c.in_ok-bytes.ensures.taken (rw c.deref.ensures.value at c.in_ok-plan.ensures.gives) c.in_ok-send_plan.ensures.sends.sent c.in_ok-flush.ensures.bytes
+    let left = g.R.Source.left c.args.source.now in
+    let f = webp_rewriting c.args.remove (payload_of c.args.put) in
+    file_sent left (g.W.Sink.taken c.args.out.now) _ (plan_view c.in_ok-plan.plan) f
+    (when_read (λ xs. f xs ≡ Ok (plan_view c.in_ok-plan.plan)) left c.in_ok-bytes.bytes.items c.in_ok-bytes.ensures.taken (rw c.deref.ensures.value at c.in_ok-plan.ensures.gives))
+    (appends_kept _ (g.W.Sink.taken c.send_plan.new.out) _ (plan_view c.in_ok-plan.plan) c.in_ok-send_plan.ensures.sends.sent c.in_ok-flush.ensures.bytes)
 
 pub returns-clause-stopped : goal.returns-clause-stopped
 returns-clause-stopped g c = tt
