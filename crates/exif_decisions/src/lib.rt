@@ -7,6 +7,7 @@ mod endings;
 mod escaped;
 mod formats;
 mod found;
+mod mistake;
 mod outcome;
 mod paths;
 mod rules;
@@ -19,6 +20,10 @@ pub use endings::{Ending, ending_of};
 pub use escaped::{Escaped, is_unreadable, readable};
 pub use formats::{Unsupported, unsupported_of};
 pub use found::{Found, FoundStep, NotRead, found_of};
+pub use mistake::{
+    Aim, Fact, Mistake, change_aim, fact_named, files_mistake, is_given, thumbnail_aim,
+    undo_mistake,
+};
 pub use outcome::Outcome;
 pub use paths::{is_inside, name_of, slash_after};
 pub use rules::{
