@@ -1,7 +1,8 @@
 //! How far two points of a track may be apart.
 
 ghost use Rattle.std.specs.Prelude.{◌≡◌};
-ghost use Rattle.exif_geotag.specs.Gaps.{gap_in};
+ghost use Rattle.exif_files.specs.Names.{name_if};
+ghost use Rattle.exif_geotag.specs.Gaps.{gap_by, gap_in};
 
 use crate::number::decimal_of;
 
@@ -20,4 +21,15 @@ pub fn gap_in(text: &[u8]) -> Option<u64>
 {
     let gap = decimal_of(1_000, text)?;
     if gap <= MAX_GAP { Some(gap) } else { None }
+}
+
+/// How far two points may be apart by the text of an option, in milliseconds: where none is given,
+/// [`DEFAULT_GAP`].
+pub fn gap_by(text: Option<&str>) -> Option<u64>
+    ensures { result ≡ gap_by (name_if text.entry) }
+{
+    match text {
+        Some(text) => gap_in(text.as_bytes()),
+        None => Some(DEFAULT_GAP),
+    }
 }

@@ -32,7 +32,7 @@ mod unix_time;
 pub use error::TrackError;
 pub use fault::TrackFault;
 pub use format::{OtherFormat, other_format};
-pub use gap::{DEFAULT_GAP, gap_in};
+pub use gap::{DEFAULT_GAP, gap_by, gap_in};
 pub use moment::{Moment, moment_at};
 pub use pictures::time_of_picture;
 pub use point::{Fix, Point};

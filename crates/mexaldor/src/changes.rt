@@ -5,7 +5,7 @@ use crate::tags::unknown_tag;
 use clap::ArgMatches;
 use exif_change::{Assignment, ClockShift};
 use exif_copy::{Selection, Shape};
-use exif_decisions::{Escaped, is_assignment};
+use exif_decisions::{Aim, Escaped, Mistake, change_aim, is_assignment};
 use exif_session::{Change, Copying, Request, ScrubOption, ScrubOptions, Target, Task, dates_by};
 use std::alloc::{AllocError, Global};
 
@@ -27,7 +27,7 @@ pub fn scrub_of<'a>(
     }
     match options.change() {
         Some(change) => changing(alloc, change, matches, words_of(alloc, matches)?),
-        None => wrong(alloc, "--force-blank requires --locations-only"),
+        None => wrong(alloc, Mistake::BlankAlone),
     }
 }
 
@@ -50,7 +50,7 @@ pub fn set_of<'a>(
         }
     }
     if values.is_empty() {
-        return wrong(alloc, "expected TAG=VALUE, such as Orientation=6");
+        return wrong(alloc, Mistake::NoAssignment);
     }
     changing(alloc, Change::Set(values), matches, files)
 }
@@ -114,21 +114,11 @@ fn changing<'a>(
     matches: &ArgMatches<'a>,
     mut files: Vec<&'a str>,
 ) -> Result<Result<Request<'a>, Wrong>, AllocError> {
-    if matches.get_flag("in-place") {
-        let task = Task::Change(change, Target::InPlace(keeping_of(matches)));
-        return request(alloc, task, matches, files);
-    }
-    if takes_many(matches) {
-        return wrong(
-            alloc,
-            "--recursive, --null and conditions require --in-place",
-        );
-    }
-    match (files.pop(), files.len()) {
-        (Some(out), 1) => {
-            let target = Target::Out(out, matches.get_flag("force"));
-            request(alloc, Task::Change(change, target), matches, files)
-        }
-        _ => wrong(alloc, "expected FILE OUT, or --in-place FILE..."),
-    }
+    let in_place = matches.get_flag("in-place");
+    let target = match change_aim(in_place, takes_many(matches), files.len()) {
+        Ok(Aim::Each) => Target::InPlace(keeping_of(matches)),
+        Ok(Aim::Out) => Target::Out(files.pop().unwrap_or(""), matches.get_flag("force")),
+        Err(mistake) => return wrong(alloc, mistake),
+    };
+    request(alloc, Task::Change(change, target), matches, files)
 }

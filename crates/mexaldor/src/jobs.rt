@@ -3,8 +3,8 @@
 use crate::selection::{Wrong, keeping_of, reading_of, request, takes_many, words_of, wrong};
 use crate::tags::tags_in;
 use clap::ArgMatches;
-use exif_decisions::Escaped;
-use exif_geotag::{DEFAULT_GAP, gap_in, is_offset};
+use exif_decisions::{Aim, Escaped, Mistake, thumbnail_aim, undo_mistake};
+use exif_geotag::{gap_by, is_offset};
 use exif_rename::{DateTag, Pattern};
 use exif_session::{
     Cataloguing, Geotagging, Renaming, Request, Table, Task, cells_by, date_tag_by, separator_by,
@@ -35,17 +35,14 @@ pub fn thumbnail_of<'a>(
     matches: &ArgMatches<'a>,
 ) -> Result<Result<Request<'a>, Wrong>, AllocError> {
     let force = matches.get_flag("force");
+    let into = matches.get_str("into");
     let mut files = words_of(alloc, matches)?;
-    if let Some(folder) = matches.get_str("into") {
-        return request(alloc, Task::Thumbnails(folder, force), matches, files);
-    }
-    if takes_many(matches) {
-        return wrong(alloc, "--recursive, --null and conditions require --into");
-    }
-    match (files.pop(), files.len()) {
-        (Some(out), 1) => request(alloc, Task::Thumbnail(out, force), matches, files),
-        _ => wrong(alloc, "expected FILE OUT, or --into FOLDER PATH..."),
-    }
+    let task = match thumbnail_aim(into.is_some(), takes_many(matches), files.len()) {
+        Ok(Aim::Each) => Task::Thumbnails(into.unwrap_or(""), force),
+        Ok(Aim::Out) => Task::Thumbnail(files.pop().unwrap_or(""), force),
+        Err(mistake) => return wrong(alloc, mistake),
+    };
+    request(alloc, task, matches, files)
 }
 
 pub fn rename_of<'a>(
@@ -56,7 +53,7 @@ pub fn rename_of<'a>(
         return undo_of(alloc, matches, file);
     }
     let Some(text) = matches.get_str("pattern") else {
-        return wrong(alloc, "expected PATTERN PATH..., or --undo FILE");
+        return wrong(alloc, Mistake::NoPattern);
     };
     let date = match date_tag_of(alloc, matches)? {
         Ok(date) => date,
@@ -103,15 +100,16 @@ fn undo_of<'a>(
     matches: &ArgMatches<'a>,
     file: &'a str,
 ) -> Result<Result<Request<'a>, Wrong>, AllocError> {
-    let has_name = ["pattern", "into", "date"]
-        .iter()
-        .any(|id| matches.get_str(id).is_some());
-    let has_files = !words_of(alloc, matches)?.is_empty();
-    if has_name || has_files || matches.get_flag("copy") || takes_many(matches) {
-        return wrong(
-            alloc,
-            "--undo FILE takes no other argument but --dry-run and --quiet",
-        );
+    let others = [
+        matches.get_str("pattern").is_some(),
+        matches.get_str("into").is_some(),
+        matches.get_str("date").is_some(),
+        !words_of(alloc, matches)?.is_empty(),
+        matches.get_flag("copy"),
+        takes_many(matches),
+    ];
+    if let Some(mistake) = undo_mistake(&others) {
+        return wrong(alloc, mistake);
     }
     let files = Vec::from_slice(alloc, &[file])?;
     request(
@@ -149,13 +147,11 @@ pub fn touch_of<'a>(
 
 // How far two points of a track may be apart, in milliseconds.
 fn gap_of(alloc: Global, matches: &ArgMatches<'_>) -> Result<Result<u64, Wrong>, AllocError> {
-    let Some(text) = matches.get_str("max-gap") else {
-        return Ok(Ok(DEFAULT_GAP));
-    };
-    match gap_in(text.as_bytes()) {
+    let text = matches.get_str("max-gap");
+    match gap_by(text) {
         Some(gap) => Ok(Ok(gap)),
         None => {
-            let text = Escaped(text);
+            let text = Escaped(text.unwrap_or(""));
             Ok(Err(format!(in alloc;
                 "invalid gap '{text}'; expected seconds from 0 to 864000, e.g. 300"
             )?))

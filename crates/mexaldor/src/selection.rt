@@ -2,7 +2,7 @@
 
 use clap::ArgMatches;
 use exif_change::ENTRY_LIMIT;
-use exif_decisions::Escaped;
+use exif_decisions::{Escaped, Fact, Mistake, fact_named, files_mistake, is_given};
 use exif_session::{Keeping, Reading, Request, Task};
 use exif_summary::{Choice, begin_of};
 use std::alloc::{AllocError, Global};
@@ -15,9 +15,9 @@ pub fn words_of<'a>(alloc: Global, matches: &ArgMatches<'a>) -> Result<Vec<&'a s
     Vec::from_slice(alloc, matches.get_strs("word").unwrap_or(&[]))
 }
 
-/// What is wrong, by its text.
-pub fn wrong<T: Drop>(alloc: Global, text: &str) -> Result<Result<T, Wrong>, AllocError> {
-    Ok(Err(String::from_str(alloc, text)?))
+/// What is wrong, in its words.
+pub fn wrong<T: Drop>(alloc: Global, mistake: Mistake) -> Result<Result<T, Wrong>, AllocError> {
+    Ok(Err(String::from_str(alloc, mistake.text())?))
 }
 
 /// The request for something that is done with these files.
@@ -28,15 +28,12 @@ pub fn request<'a>(
     paths: Vec<&'a str>,
 ) -> Result<Result<Request<'a>, Wrong>, AllocError> {
     let names_from_input = matches.get_flag("null");
-    if paths.is_empty() && !names_from_input {
-        return wrong(alloc, "expected a file");
-    }
     let choice = match choice_of(alloc, matches)? {
         Ok(choice) => choice,
         Err(wrong) => return Ok(Err(wrong)),
     };
-    if choice.is_any() && paths.iter().any(|path| *path == "-") {
-        return wrong(alloc, "no condition can be put on standard input");
+    if let Some(mistake) = files_mistake(paths.as_slice(), names_from_input, choice.is_any()) {
+        return wrong(alloc, mistake);
     }
     Ok(Ok(Request {
         choice,
@@ -69,14 +66,11 @@ fn choice_of<'a>(
         camera: matches.get_str("camera").map(|text| text.as_bytes()),
     };
     for (id, asked) in [("where", true), ("without", false)] {
-        for fact in matches.get_strs(id).unwrap_or(&[]) {
-            match *fact {
-                "date" => choice.date = Some(asked),
-                "location" => choice.location = Some(asked),
-                _ => return wrong(
-                    alloc,
-                    "expected date or location after --where or --without",
-                ),
+        for name in matches.get_strs(id).unwrap_or(&[]) {
+            match fact_named(*name) {
+                Ok(Fact::Date) => choice.date = Some(asked),
+                Ok(Fact::Location) => choice.location = Some(asked),
+                Err(mistake) => return wrong(alloc, mistake),
             }
         }
     }
@@ -105,13 +99,15 @@ fn date_of(
 
 /// Whether many files may be asked for.
 pub fn takes_many(matches: &ArgMatches<'_>) -> bool {
-    ["recursive", "null"].iter().any(|id| matches.get_flag(id))
-        || ["after", "before", "camera"]
-            .iter()
-            .any(|id| matches.get_str(id).is_some())
-        || ["where", "without"]
-            .iter()
-            .any(|id| matches.get_strs(id).is_some())
+    is_given(&[
+        matches.get_flag("recursive"),
+        matches.get_flag("null"),
+        matches.get_str("after").is_some(),
+        matches.get_str("before").is_some(),
+        matches.get_str("camera").is_some(),
+        matches.get_strs("where").is_some(),
+        matches.get_strs("without").is_some(),
+    ])
 }
 
 /// How files are read.
