@@ -1,6 +1,7 @@
 pub mod Asking
 pub mod Endings
 pub mod Escaping
+pub mod Faults
 pub mod Found
 pub mod Outcomes
 pub mod Paths

@@ -5,6 +5,7 @@
 mod counts;
 mod endings;
 mod escaped;
+mod faults;
 mod formats;
 mod found;
 mod mistake;
@@ -18,6 +19,7 @@ mod timing;
 pub use counts::{Counts, Summary};
 pub use endings::{Ending, ending_of};
 pub use escaped::{Escaped, is_unreadable, readable};
+pub use faults::SkippedFaults;
 pub use formats::{Unsupported, unsupported_of};
 pub use found::{Found, FoundStep, NotRead, found_of};
 pub use mistake::{

@@ -1,7 +1,7 @@
 -- The new name that the files of a stem are to have.
-use Rattle.std.specs.Prelude.{ℕ, ◌==◌, nat_eq, if◌then◌else◌, List, [], ◌∷◌, ◌++◌, codes, drop, length, map}
+use Rattle.std.specs.Prelude.{ℕ, ◌==◌, nat_eq, if◌then◌else◌, List, [], ◌∷◌, ◌++◌, codes, drop, length, map, Option, None, Some}
 use Rattle.std.specs.List.{flat_map, starts_with}
-use Rattle.exif_decisions.specs.Paths.{slash_after}
+use Rattle.exif_decisions.specs.Paths.{name_of, slash_after}
 use Rattle.exif_rename.specs.Grouped.{ending_of, stem_of}
 use Rattle.exif_rename.specs.Wishes.{File, Wanted}
 
@@ -17,6 +17,17 @@ file_for stem path = record { old = path; ending = ending_behind stem path }
 -- a name in a folder
 abbrev pub in_folder : List ℕ → List ℕ → List ℕ
 in_folder folder name = folder ++ (slash_after folder ++ name)
+
+-- the name of a path in a folder, if both are there; else the path itself
+abbrev pub named_in : Option (List ℕ) → List ℕ → List ℕ
+named_in None path = path
+named_in (Some folder) path =
+    if length (name_of path) == 0 then path else in_folder folder (name_of path)
+
+-- where the links of a path end, if something has it, or else its name where those of its folder do
+abbrev pub absolute_by : List ℕ → Option (List ℕ) → Option (List ℕ) → List ℕ
+absolute_by path None folder = named_in folder path
+absolute_by path (Some found) folder = found
 
 -- files of a stem that are to have a name in a folder
 abbrev pub wanted_for : List ℕ → List ℕ → List ℕ → List (List ℕ) → Wanted

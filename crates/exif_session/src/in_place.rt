@@ -10,10 +10,10 @@ use crate::console::Console;
 use crate::notes::NoteLine;
 use crate::request::Change;
 use crate::session::{Item, Session, Stop};
-use crate::wishes::in_folder;
+use crate::wishes::absolute_by;
 use exif::Sink;
 use exif_change::{Left, Note, Refusal};
-use exif_decisions::{Counts, Escaped, Outcome, name_of};
+use exif_decisions::{Counts, Escaped, Outcome};
 use exif_files::{
     Failure, HostFiles, Keeping, Report, Reporter, WriteError, change_all, folder_of,
 };
@@ -21,6 +21,7 @@ use std::alloc::AllocError;
 use std::fmt::{self, Display};
 use std::fs;
 use std::io::{self, ErrorKind};
+use std::path::PathBuf;
 
 /// The files of a run, all found before the first is changed.
 #[derive(Drop)]
@@ -122,14 +123,20 @@ pub fn outcome_of<L, N, R>(changed: &Result<Report<L, N>, Failure<R>>) -> Outcom
 /// A path from the root of the file system on: where its links end, and where nothing has it, its
 /// name in the folder where those of its folder end.
 pub fn absolute_of(rt: &HostRuntime, path: &str) -> Result<String, AllocError> {
-    let alloc = rt.alloc();
-    if let Ok(found) = fs::canonicalize(rt, path) {
-        return String::from_str(alloc, found.as_path().as_str());
-    }
-    let (folder, name) = (folder_of(path), name_of(path));
-    match fs::canonicalize(rt, folder) {
-        Ok(found) if !name.is_empty() => { in_folder(alloc, found.as_path().as_str(), name) }
-        _ => String::from_str(alloc, path),
+    let found = fs::canonicalize(rt, path).ok();
+    let folder = if found.is_some() {
+        None
+    } else {
+        fs::canonicalize(rt, folder_of(path)).ok()
+    };
+    absolute_by(rt.alloc(), path, text_of(&found), text_of(&folder))
+}
+
+// The text of a path, if there is one.
+fn text_of(path: &Option<PathBuf>) -> Option<&str> {
+    match path {
+        Some(path) => Some(path.as_path().as_str()),
+        None => None,
     }
 }
 

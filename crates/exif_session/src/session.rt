@@ -13,7 +13,7 @@ use crate::pending::{Next, Pending};
 use crate::request::Request;
 use exif::Sink;
 use exif_base::send_all;
-use exif_decisions::{Found, FoundStep, Outcome, Summary, fate_of};
+use exif_decisions::{Found, FoundStep, Outcome, SkippedFaults, Summary, fate_of};
 use exif_files::{Status, remove_abandoned};
 use std::alloc::{AllocError, AllocFailed};
 use std::fmt::Display;
@@ -285,11 +285,8 @@ impl<'r, 'a, W: Sink, E: Sink> Session<'r, 'a, W, E> {
     pub fn skip_faults(&mut self, path: &str, count: usize) -> Result<Outcome, Stop>
         ensures { IfOk result (λ outcome. outcome ≡ outcome_with count) }
     {
-        if count == 1 {
-            self.say(path, &"1 fault was skipped")?;
-        } else if count > 1 {
-            let text = format!(in self.rt.alloc(); "{count} faults were skipped")?;
-            self.say(path, &text)?;
+        if count > 0 {
+            self.say(path, &SkippedFaults(count))?;
         }
         Ok(Outcome::of_faults(count))
     }

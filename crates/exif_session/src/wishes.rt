@@ -1,11 +1,12 @@
 //! The new name that the files of a stem are to have.
 
 ghost use Rattle.std.specs.Prelude.{◌≡◌, ◌≢◌, ◌++◌, ℕ, List, [], ◌∷◌, IfOk, OnOk, length, map, string_bytes};
+ghost use Rattle.exif_files.specs.Names.{name_if};
 ghost use Rattle.exif_rename.specs.Nested.{IsNested};
 ghost use Rattle.exif_rename.specs.Wishes.{file_of, wanted_of};
-ghost use Rattle.exif_session.specs.Wished.{ending_behind, file_for, in_folder, sidecars_by, sidecars_of, suffixes, wanted_for};
+ghost use Rattle.exif_session.specs.Wished.{absolute_by, ending_behind, file_for, in_folder, sidecars_by, sidecars_of, suffixes, wanted_for};
 
-use exif_decisions::slash_after;
+use exif_decisions::{name_of, slash_after};
 use exif_rename::{Wish, WishFile, root_of, split_path};
 use std::alloc::{AllocError, Global};
 
@@ -52,6 +53,27 @@ pub fn in_folder(alloc: Global, folder: &str, name: &str) -> Result<String, Allo
 {
     let slash = slash_after(folder);
     format!(in alloc; "{folder}{slash}{name}")
+}
+
+/// A path from the root of the file system on, by where its links end; where nothing has it, by
+/// where those of its folder end, with its name; else the path itself.
+pub fn absolute_by(
+    alloc: Global,
+    path: &str,
+    found: Option<&str>,
+    folder: Option<&str>,
+) -> Result<String, AllocError>
+    ensures { IfOk result (λ text. string_bytes text
+        ≡ absolute_by path.now (name_if found.entry) (name_if folder.entry)) }
+{
+    if let Some(found) = found {
+        return String::from_str(alloc, found);
+    }
+    let name = name_of(path);
+    match folder {
+        Some(folder) if !name.is_empty() => in_folder(alloc, folder, name),
+        _ => String::from_str(alloc, path),
+    }
 }
 
 /// The new name that the files of a stem are to have, in a folder: what follows the stem in the
