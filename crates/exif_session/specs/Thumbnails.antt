@@ -10,13 +10,13 @@ use Rattle.exif_session.specs.declared.thumbnails.Kept.{Kept}
 use Rattle.exif_session.specs.declared.thumbnails.Kept.TheVariants as kept
 
 -- where a picture of a format has its thumbnail: in a box of its own, where the Exif data say that
--- are the file, as an item, or in its Exif data
+-- are the file, there or in a JPEG stream of theirs, as an item, or in its Exif data
 abbrev pub kept_in : Option PictureFormat → Kept
 kept_in None = kept.Data
 kept_in (Some format.Cr3) = kept.Box
 kept_in (Some format.Tiff) = kept.File
 kept_in (Some format.Orf) = kept.File
-kept_in (Some format.Rw2) = kept.File
+kept_in (Some format.Rw2) = kept.Stream
 kept_in (Some format.Heif) = kept.Items
 kept_in (Some format.Jpeg) = kept.Data
 kept_in (Some format.WebP) = kept.Data

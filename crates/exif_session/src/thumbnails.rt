@@ -8,9 +8,12 @@ use crate::inputs::{Input, open};
 use exif::{Counted, Error, Exif, Seekable};
 use exif_change::{ENTRY_LIMIT, Refusal, thumbnail};
 use exif_formats::raw::cr3::find_thumbnail;
-use exif_formats::{Options, Picture, PictureFormat, read_picture};
+use exif_formats::{Options, Picture, PictureFormat, read_bytes, read_picture};
 use exif_report::found_of;
-use exif_thumbnails::{Place, Thumbnail, place_of, read_place, read_thumbnail_coding};
+use exif_thumbnails::{
+    Place, Thumbnail, ends_search, jpg_from_raw, place_of, preview_places, read_place,
+    read_thumbnail_coding, whole_stream,
+};
 use std::alloc::Global;
 use std::io::{Seek, SeekFrom};
 
@@ -21,6 +24,8 @@ enum Kept {
     Box,
     // where its Exif data, which are the file, say
     File,
+    // there too, or in a JPEG stream that is the value of a field
+    Stream,
     // as an item of the file, or in its Exif data
     Items,
     // in its Exif data
@@ -33,7 +38,8 @@ fn kept_in(format: Option<PictureFormat>) -> Kept
 {
     match format {
         Some(PictureFormat::Cr3) => Kept::Box,
-        Some(PictureFormat::Tiff | PictureFormat::Orf | PictureFormat::Rw2) => Kept::File,
+        Some(PictureFormat::Tiff | PictureFormat::Orf) => Kept::File,
+        Some(PictureFormat::Rw2) => Kept::Stream,
         Some(PictureFormat::Heif) => Kept::Items,
         _ => Kept::Data,
     }
@@ -59,8 +65,8 @@ pub fn jpeg_of(found: Option<Thumbnail>) -> Result<Vec<u8>, Refusal>
 }
 
 /// The thumbnail of a picture, if it has one: that in its Exif data, which is read from the file
-/// where it is behind what was held of them, and that in a CR3 file's own box. Of one that is an
-/// item of a HEIF file, its coding is answered. Faults are skipped.
+/// where it is behind what was held of them, or else a preview; and that in a CR3 file's own box. Of
+/// one that is an item of a HEIF file, its coding is answered. Faults are skipped.
 pub fn thumbnail_of(rt: &HostRuntime, path: &str) -> Result<Option<Thumbnail>, Error> {
     let alloc = rt.alloc();
     let input = open(rt, path)?;
@@ -71,6 +77,13 @@ pub fn thumbnail_of(rt: &HostRuntime, path: &str) -> Result<Option<Thumbnail>, E
             let (exif, _faults) = found_of(alloc, picture.answer)?;
             in_tiff(alloc, &input, &exif)
         }
+        Kept::Stream => {
+            let (exif, _faults) = found_of(alloc, picture.answer)?;
+            match jpg_from_raw(&exif) {
+                Some(stream) => Ok(Some(in_stream(alloc, stream)?)),
+                None => in_tiff(alloc, &input, &exif),
+            }
+        }
         Kept::Items => in_heif(alloc, &input, picture.answer),
         Kept::Data => {
             let (exif, _faults) = found_of(alloc, picture.answer)?;
@@ -79,15 +92,17 @@ pub fn thumbnail_of(rt: &HostRuntime, path: &str) -> Result<Option<Thumbnail>, E
     }
 }
 
+// How a picture is read: faults are skipped.
+const OPTIONS: Options = Options {
+    lenient: true,
+    limit: Some(ENTRY_LIMIT),
+};
+
 // What is read of a file.
 fn picture_in(alloc: Global, input: &Input) -> Result<Picture, Error> {
-    let options = Options {
-        lenient: true,
-        limit: Some(ENTRY_LIMIT),
-    };
     match input {
-        Input::Bytes(bytes) => { read_picture(options, alloc, &mut Counted::new(bytes.as_slice())) }
-        Input::File(file) => read_picture(options, alloc, &mut Seekable::new(file)),
+        Input::Bytes(bytes) => { read_picture(OPTIONS, alloc, &mut Counted::new(bytes.as_slice())) }
+        Input::File(file) => read_picture(OPTIONS, alloc, &mut Seekable::new(file)),
     }
 }
 
@@ -99,15 +114,42 @@ fn in_data(alloc: Global, exif: &Exif) -> Result<Option<Thumbnail>, Error> {
     }
 }
 
-// The thumbnail of a file that is TIFF data, of which no more than a prefix may be held.
+// The thumbnail in the Exif data of a JPEG stream, or else the stream.
+fn in_stream(alloc: Global, stream: &[u8]) -> Result<Thumbnail, Error> {
+    let picture = read_bytes(OPTIONS, alloc, stream);
+    match found_of(alloc, picture.answer) {
+        Ok((exif, _faults)) => {
+            if let Some(held) = in_data(alloc, &exif)? {
+                return Ok(held);
+            }
+        }
+        Err(Error::OutOfMemory) => return Err(Error::OutOfMemory),
+        Err(_refused) => {}
+    }
+    Ok(whole_stream(alloc, stream)?)
+}
+
+// The thumbnail of a file that is TIFF data, of which no more than a prefix may be held; where there
+// is none, the shortest preview that is JPEG data.
 fn in_tiff(alloc: Global, input: &Input, exif: &Exif) -> Result<Option<Thumbnail>, Error> {
     if let Some(held) = in_data(alloc, exif)? {
         return Ok(Some(held));
     }
     match place_of(exif) {
         Some(place) => Ok(Some(at_place(alloc, input, place)?)),
-        None => Ok(None),
+        None => preview_in(alloc, input, exif),
     }
+}
+
+// The shortest preview of a file that is JPEG data.
+fn preview_in(alloc: Global, input: &Input, exif: &Exif) -> Result<Option<Thumbnail>, Error> {
+    for place in preview_places(alloc, exif)? {
+        let found = at_place(alloc, input, place)?;
+        if ends_search(&found) {
+            return Ok(Some(found));
+        }
+    }
+    Ok(None)
 }
 
 // The thumbnail of a HEIF file: that in its Exif data, or else an item.

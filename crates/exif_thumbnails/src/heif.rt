@@ -7,10 +7,10 @@ ghost use Rattle.exif_base.specs.Reads.{Counts};
 ghost use Rattle.exif_types.specs.Refusals.{IsInterrupted, is_io};
 ghost use Rattle.exif_thumbnails.specs.Heif.{coding_named, coding_of, entry_in, entry_named, held, meta_children, thumbnail_coding, thumbnail_item};
 
+use crate::prefix::read_prefix;
 use exif_base::Source;
 use exif_formats::raw::cr3::first_held;
 use exif_isobmff::meta_of;
-use exif_segments::util::read_at_most;
 use exif_types::Error;
 use std::alloc::Global;
 
@@ -133,7 +133,6 @@ pub fn read_thumbnail_coding<R: Source>(
     ensures interrupted { IfErr result IsInterrupted }
     ensures counts { Counts R.Source source.old source.new (is_io result) }
 {
-    let mut prefix = Vec::new(alloc);
-    read_at_most(source, &mut prefix, HEIF_PREFIX_LEN)?;
+    let prefix = read_prefix(alloc, source, HEIF_PREFIX_LEN)?;
     Ok(thumbnail_coding(&prefix))
 }

@@ -3,13 +3,19 @@
 //! [`place_of`] answers where the Exif data say that it is, and [`read_place`] reads it from the
 //! file where it is behind what was held. A CR3 file has its own
 //! ([`find_thumbnail`](exif_formats::raw::cr3::find_thumbnail)). That of a HEIF or AVIF file may be
-//! coded otherwise ([`thumbnail_coding`]).
+//! coded otherwise ([`thumbnail_coding`]). TIFF and raw files without a thumbnail may have previews
+//! ([`preview_places`], [`jpg_from_raw`]).
 #![tactic(auto)]
 
 mod heif;
 mod place;
+mod prefix;
+mod previews;
 mod reading;
+mod stream;
 
 pub use heif::{Coding, HEIF_PREFIX_LEN, read_thumbnail_coding, thumbnail_coding};
 pub use place::{MAX_THUMBNAIL_LEN, Place, place_of};
+pub use previews::preview_places;
 pub use reading::{Thumbnail, read_place};
+pub use stream::{ends_search, jpg_from_raw, whole_stream};
