@@ -3,8 +3,8 @@
 ghost use Rattle.std.specs.Prelude.{⊤, ◌≡◌, ◌<◌, ◌+◌, ◌^◌};
 
 use exif_files::{
-    Edit, EditError, Edited, Failure, HostFiles, Keeping, Report, Reporter, Status, WriteError,
-    change, change_all, create_new, finish_move, move_new, replace,
+    Edit, EditError, Edited, Failure, FileSystem, HostFiles, Keeping, Report, Reporter, Status,
+    WriteError, change, change_all, create_new, finish_move, move_new, replace,
 };
 use exif_test_support::{MemoryFiles, Stored};
 use std::alloc::Global;
