@@ -43,9 +43,12 @@ module _ (sql : List ℕ) (old mid new : State) (same : IsUnchanged old mid) whe
       let none = plain h.0 (since h.0 h.1).is in
       let full = timed [] h.0.formats h.1.now in
       let it = subst (ShowsRows mid new sql h.0 full rows) none h.2 in
-      let source = subst (λ (d : Database). IsSourceOf (reads_listing d.schema sql) d it.0) same.0.now_is it.1 in
-      (h.0, since h.0 h.1, subst (ShowsRows old new sql h.0 full rows) (sym none)
-          (it.0, source, it.2, unchanged_then old mid new same it.3))
+      let source = subst (λ (d : Database). IsSourceOf (reads_listing d.schema sql) d it.0) same.0.now_is it.1 in (
+        h.0,
+        since h.0 h.1,
+        subst (ShowsRows old new sql h.0 full rows) (sym none)
+            (it.0, source, it.2, unchanged_then old mid new same it.3),
+      )
 
   fails_to_query_since : old.faults ≤ mid.faults → mid.step_limit ≡ old.step_limit
       → ((c : _) → understood old.now.schema sql ≡ Ok c → c.returning ≡ None)
@@ -60,9 +63,16 @@ module _ (sql : List ℕ) (old mid new : State) (same : IsUnchanged old mid) whe
       let full = timed [] h.0.formats h.1.now in
       let it = subst (FailsAs mid new sql h.0 full e) none h.2 in
       let source = subst (λ (d : Database). IsSourceOf (reads_listing d.schema sql) d it.0) same.0.now_is it.1 in
-      inr (h.0, since h.0 h.1, subst (FailsAs old new sql h.0 full e) (sym none)
-          (it.0, source, subst (λ l. RefusesToRead l h.0.command it.0 full e) limit it.2,
-          unchanged_then old mid new same it.3))
+      inr (
+        h.0,
+        since h.0 h.1,
+        subst (FailsAs old new sql h.0 full e) (sym none) (
+          it.0,
+          source,
+          subst (λ l. RefusesToRead l h.0.command it.0 full e) limit it.2,
+          unchanged_then old mid new same it.3,
+        ),
+      )
 
 -- ---- a query before a state that stays
 
@@ -112,13 +122,13 @@ module _ {S : Type 0} (g : Ghosts S) (sql : List ℕ) (old : Held S) where
     shown_more row advances same hands = elim shown [
       | inl given ↦ inl (advances sql [] rows given.0, unchanged_then _ _ _ given.1 same)
       | inr written ↦ inr (
-          written.0,
-          subst (Shown sql [] (state g old) (state g new))
-              (ap (λ more. rows ++ more) (hands written.2).0
-              ∙ sym (append_assoc rows (row ∷ []) (returned new.reading)))
-              (shown_then sql _ _ _ same _ written.1),
-          (hands written.2).1,
-        )
+        written.0,
+        subst (Shown sql [] (state g old) (state g new))
+            (ap (λ more. rows ++ more) (hands written.2).0
+            ∙ sym (append_assoc rows (row ∷ []) (returned new.reading)))
+            (shown_then sql _ _ _ same _ written.1),
+        (hands written.2).1,
+      )
     ]
 
     pub shown_all : Advances g mid new None
@@ -278,8 +288,12 @@ module _ {S : Type 0} (g : Ghosts S) {X : Type 0} (Hands : X → Row → X → T
       → FailsToHand g sql old last (error.Database (SqliteFailure OperationInterrupted))
   handed_too_many now last it count had rests clean all =
       let handed = had (subst (λ h. HasCleanDisk (state g h)) (sym rests) clean) in
-      inr (handed.0, subst (λ h. HasShown g sql old h handed.0) rests handed.1,
-      sym handed.2 ∙ all, refl)
+      inr (
+        handed.0,
+        subst (λ h. HasShown g sql old h handed.0) rests handed.1,
+        sym handed.2 ∙ all,
+        refl,
+      )
 
   module _ (before after : Rows S g) (result : Result (Option (Bor Row)) Error)
       (moved : HasMoved g before result after) (it : X) (count : ℕ)
@@ -301,9 +315,12 @@ module _ {S : Type 0} (g : Ghosts S) {X : Type 0} (Hands : X → Row → X → T
     )
 
     pub handed_all : result ≡ Ok None → HandsEach g Hands sql old last first it count
-    handed_all is = subst (λ h. HandsEach g Hands sql old h first it count) rests
-        (handed.0, moved_past g sql old before after result moved late_too handed.0 handed.1 is,
-        handed.2, handed.3)
+    handed_all is = subst (λ h. HandsEach g Hands sql old h first it count) rests (
+      handed.0,
+      moved_past g sql old before after result moved late_too handed.0 handed.1 is,
+      handed.2,
+      handed.3,
+    )
 
     pub hand_fails : (P : _) (why : Error) → Survives (state g old) (state g before.conn.now) P
         → result ≡ Err why → FailsToHand g sql old last (database_error why)

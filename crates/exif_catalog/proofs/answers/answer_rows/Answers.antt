@@ -40,7 +40,7 @@ returns-in_default-clause-rows g c clean =
     let now = c.next.follows.lender-at-none.conn.now in
     let late : HasCleanDisk (state g.S.Store now) = search rules in
     let all : HandsEach g.S.Store (HandsLine g.L.Lines.takes) c.args.statement.now.text
-        c.args.database.now now c.args.lines.now c.rows.lines c.rows.count =
+    c.args.database.now now c.args.lines.now c.rows.lines c.rows.count =
     handed_all g.S.Store (HandsLine g.L.Lines.takes) c.args.statement.now.text
     c.args.database.now c.args.lines.now c.rows.answer c.next.follows.lender-at-none c.next.result
     c.next.follows.holds-at-none c.rows.lines c.rows.count c.rows.invariant.3 now refl late
@@ -50,16 +50,20 @@ returns-in_default-clause-rows g c clean =
 pub returns-in_err-row-clause-refused : goal.returns-in_err-row-clause-refused
 returns-in_err-row-clause-refused g c clean =
     let e : c.from_residual-in_err-row.result ≡ Err (run.Catalog (database_error c.in_err-row.field-0.0)) = search rules in
-    rw e (inr (_, refl, hand_fails g.S.Store (HandsLine g.L.Lines.takes) c.args.statement.now.text
-    c.args.database.now c.args.lines.now c.rows.answer c.next.follows.lender-at-none c.next.result
-    c.next.follows.holds-at-none c.rows.lines c.rows.count c.rows.invariant.3 _ (search rules) clean
-    _ _ c.rows.invariant.1 c.in_err-row.was))
+    rw e (inr (
+      _,
+      refl,
+      hand_fails g.S.Store (HandsLine g.L.Lines.takes) c.args.statement.now.text
+          c.args.database.now c.args.lines.now c.rows.answer c.next.follows.lender-at-none c.next.result
+          c.next.follows.holds-at-none c.rows.lines c.rows.count c.rows.invariant.3 _ (search rules) clean
+          _ _ c.rows.invariant.1 c.in_err-row.was,
+    ))
 
 pub returns-clause-refused : goal.returns-clause-refused
 returns-clause-refused g c clean = inr (
   c.too_many.result,
   refl,
   rw c.too_many.ensures (handed_too_many g.S.Store (HandsLine g.L.Lines.takes) c.args.statement.now.text
-  c.args.database.now c.args.lines.now c.rows.answer.conn.now _ c.rows.lines c.rows.count
-  c.rows.invariant.3 (search rules) clean (omega arith)),
+      c.args.database.now c.args.lines.now c.rows.answer.conn.now _ c.rows.lines c.rows.count
+      c.rows.invariant.3 (search rules) clean (omega arith)),
 )

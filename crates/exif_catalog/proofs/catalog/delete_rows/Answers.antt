@@ -19,13 +19,13 @@ loop-moved-preserved g c =
     let within : c.loop-moved.moved-index < length c.args.moves.now = omega arith in (
       λ clean. c.loop-moved.invariant.0 (c.delete_row.ensures.clean clean),
       λ clean.
-        let before = c.delete_row.ensures.clean clean in
-        deleted_more g.S.Store c.in_ok-delete.delete.text c.as_str.result.now c.args.moves.now
-        c.loop-moved.moved-index c.moved-item.result c.prepare.new.database c.loop-moved.database
-        c.delete_row.new.database
-        (c.in_ok-delete.ensures.text (c.loop-moved.invariant.0 before))
-        (search rules) within c.moved-item.is (c.loop-moved.invariant.1 before)
-        (c.in_ok-delete_row.ensures.runs clean),
+          let before = c.delete_row.ensures.clean clean in
+          deleted_more g.S.Store c.in_ok-delete.delete.text c.as_str.result.now c.args.moves.now
+          c.loop-moved.moved-index c.moved-item.result c.prepare.new.database c.loop-moved.database
+          c.delete_row.new.database
+          (c.in_ok-delete.ensures.text (c.loop-moved.invariant.0 before))
+          (search rules) within c.moved-item.is (c.loop-moved.invariant.1 before)
+          (c.in_ok-delete_row.ensures.runs clean),
     )
 
 pub returns-in_err-delete_row-clause-refused : goal.returns-in_err-delete_row-clause-refused

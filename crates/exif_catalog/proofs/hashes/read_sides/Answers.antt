@@ -35,8 +35,10 @@ rows-preserved g c = (
       c.next.follows.holds-at-none _ c.rows.invariant.2 _ refl clean
       c.in-Some.row _ _ (c.in_ok-row.was ∙ ap (λ it. Ok it) c.in-Some.is)
       c.in_ok-hashed_of.ensures.hashed
-      (λ found had. (flat_more gone_in found _ _ _ had.0 c.in_ok-add.ensures.gone,
-      flat_more new_in found _ _ _ had.1 c.in_ok-add.ensures.fresh)),
+      (λ found had. (
+        flat_more gone_in found _ _ _ had.0 c.in_ok-add.ensures.gone,
+        flat_more new_in found _ _ _ had.1 c.in_ok-add.ensures.fresh,
+      )),
 )
 
 pub returns-in_default-clause-sides : goal.returns-in_default-clause-sides

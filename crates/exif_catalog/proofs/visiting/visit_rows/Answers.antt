@@ -19,8 +19,8 @@ pub returns-in_err-answer-clause-survives : goal.returns-in_err-answer-clause-su
 returns-in_err-answer-clause-survives g c =
     let none = rw c.in_err-answer.was at c.query.follows.holds-at-none in
     let kept : Survives (state g.S.Store c.args.database.now)
-        (state g.S.Store c.query.follows.lender-at-none)
-        (CommitsShowing (pictures_text shown_columns) [] (state g.S.Store c.args.database.now)) =
+    (state g.S.Store c.query.follows.lender-at-none)
+    (CommitsShowing (pictures_text shown_columns) [] (state g.S.Store c.args.database.now)) =
     rw c.pictures_text.ensures at none.survives in
     search (rules, kept)
 
@@ -48,7 +48,7 @@ returns-in_default-clause-rows g c clean =
     let now = c.next.follows.lender-at-none.conn.now in
     let late : HasCleanDisk (state g.S.Store now) = search rules in
     let all : HandsEach g.S.Store (HandsPicture g.V.Visitor.visits) (pictures_text shown_columns)
-        c.args.database.now now c.args.visitor.now c.rows.visitor c.rows.count =
+    c.args.database.now now c.args.visitor.now c.rows.visitor c.rows.count =
     handed_all g.S.Store (HandsPicture g.V.Visitor.visits) (pictures_text shown_columns)
     c.args.database.now c.args.visitor.now c.rows.answer c.next.follows.lender-at-none c.next.result
     c.next.follows.holds-at-none c.rows.visitor c.rows.count c.rows.invariant.2 now refl late
@@ -58,16 +58,20 @@ returns-in_default-clause-rows g c clean =
 pub returns-in_err-row-clause-refused : goal.returns-in_err-row-clause-refused
 returns-in_err-row-clause-refused g c clean =
     let e : c.from_residual-in_err-row.result ≡ Err (run.Catalog (database_error c.in_err-row.field-0.0)) = search rules in
-    rw e (inr (_, refl, hand_fails g.S.Store (HandsPicture g.V.Visitor.visits) (pictures_text shown_columns)
-    c.args.database.now c.args.visitor.now c.rows.answer c.next.follows.lender-at-none c.next.result
-    c.next.follows.holds-at-none c.rows.visitor c.rows.count c.rows.invariant.2 _ (search rules) clean
-    _ _ c.rows.invariant.1 c.in_err-row.was))
+    rw e (inr (
+      _,
+      refl,
+      hand_fails g.S.Store (HandsPicture g.V.Visitor.visits) (pictures_text shown_columns)
+          c.args.database.now c.args.visitor.now c.rows.answer c.next.follows.lender-at-none c.next.result
+          c.next.follows.holds-at-none c.rows.visitor c.rows.count c.rows.invariant.2 _ (search rules) clean
+          _ _ c.rows.invariant.1 c.in_err-row.was,
+    ))
 
 pub returns-clause-refused : goal.returns-clause-refused
 returns-clause-refused g c clean = inr (
   c.too_many.result,
   refl,
   rw c.too_many.ensures (handed_too_many g.S.Store (HandsPicture g.V.Visitor.visits) (pictures_text shown_columns)
-  c.args.database.now c.args.visitor.now c.rows.answer.conn.now _ c.rows.visitor c.rows.count
-  c.rows.invariant.2 (search rules) clean (omega arith)),
+      c.args.database.now c.args.visitor.now c.rows.answer.conn.now _ c.rows.visitor c.rows.count
+      c.rows.invariant.2 (search rules) clean (omega arith)),
 )
