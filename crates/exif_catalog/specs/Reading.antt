@@ -30,7 +30,9 @@ use Rattle.exif_catalog.specs.declared.moving.Hashed.{Hashed}
 
 -- what reads what a run has to know of each row
 abbrev pub read_rows : List ℕ
-read_rows = codes "SELECT path, file_size, file_modified, file_modified_ns, file_changed, file_changed_ns, file_device, file_inode, removed, hash IS NULL FROM picture"
+read_rows =
+    codes "SELECT path, file_size, file_modified, file_modified_ns, file_changed, "
+    ++ codes "file_changed_ns, file_device, file_inode, removed, hash IS NULL FROM picture"
 
 -- what reads the hashes that rows have
 abbrev pub read_hashes : List ℕ

@@ -4,8 +4,8 @@ use Rattle.sqlite.specs.Held.{state}
 use Rattle.sqlite.specs.State.{HasCleanDisk}
 use Rattle.exif_catalog.proofs.answers.answer.Goals as goal
 
-pub returns-clause-answers : goal.returns-clause-answers
-returns-clause-answers g c clean =
+pub returns : goal.returns
+returns g c = λ clean.
     let early : HasCleanDisk (state g.S.Store c.prepare.new.database) =
     omega (arith, c.answer_rows.ensures.survives.clean) in
     IfOk-weaker c.answer_rows.result _ _ (λ count all. (

@@ -1,7 +1,8 @@
-use Rattle.std.proofs.Common.{◌≡◌, ◌<◌, inl, inr, refl, rules, arith, length, Err}
+use Rattle.std.proofs.Common.{◌≡◌, ◌<◌, inl, inr, refl, rules, arith, length, Ok, Err, subst}
+use Rattle.std.proofs.lemmas.List.{take_all}
 use Rattle.sqlite.specs.Held.{state}
 use Rattle.sqlite.specs.State.{HasCleanDisk}
-use Rattle.exif_catalog.specs.Reading.{delete_row}
+use Rattle.exif_catalog.specs.Reading.{Deletes, Steps, delete_row}
 use Rattle.exif_catalog.proofs.Reading.{deleted_more, deleted_not}
 use Rattle.exif_catalog.proofs.catalog.delete_rows.Goals as goal
 
@@ -26,6 +27,17 @@ loop-moved-preserved g c =
           (c.in_ok-delete.ensures.text (c.loop-moved.invariant.0 before))
           (search rules) within c.moved-item.is (c.loop-moved.invariant.1 before)
           (c.in_ok-delete_row.ensures.runs clean),
+    )
+
+pub returns-clause-deletes : goal.returns-clause-deletes
+returns-clause-deletes g c clean =
+    let begun = c.loop-moved.invariant.0 clean in (
+      c.prepare.new.database,
+      c.in_ok-delete.ensures.same begun,
+      subst (λ all. Steps (λ was move is. Deletes g.S.Store was move is (Ok tt))
+      c.prepare.new.database all c.loop-moved.database)
+          (take_all c.loop-moved.moved-index c.args.moves.now c.loop-moved-test.false)
+          (c.loop-moved.invariant.1 clean),
     )
 
 pub returns-in_err-delete_row-clause-refused : goal.returns-in_err-delete_row-clause-refused
