@@ -35,7 +35,7 @@ returns-clause-deletes g c clean =
       c.prepare.new.database,
       c.in_ok-delete.ensures.same begun,
       subst (λ all. Steps (λ was move is. Deletes g.S.Store was move is (Ok tt))
-      c.prepare.new.database all c.loop-moved.database)
+          c.prepare.new.database all c.loop-moved.database)
           (take_all c.loop-moved.moved-index c.args.moves.now c.loop-moved-test.false)
           (c.loop-moved.invariant.1 clean),
     )
