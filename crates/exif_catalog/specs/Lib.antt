@@ -9,6 +9,7 @@ pub mod Known
 pub mod Moves
 pub mod Tables
 pub mod Cells
+pub mod Reading
 pub mod Runs
 pub mod Totals
 pub mod Shown

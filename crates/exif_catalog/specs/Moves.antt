@@ -3,8 +3,6 @@ use Rattle.std.specs.Prelude.{ℕ, List, [], ◌∷◌, ◌++◌, Option, Some, 
 use Rattle.std.specs.Str.{bytes_eq}
 use Rattle.std.specs.String.{string_bytes}
 use Rattle.exif_catalog.specs.declared.hashes.Move.{Move}
-use Rattle.exif_catalog.specs.declared.known.Side.{Side}
-use Rattle.exif_catalog.specs.declared.known.Side.TheVariants as side
 use Rattle.exif_catalog.specs.declared.moving.Hashed.{Hashed}
 use Rattle.exif_catalog.specs.declared.moving.Holder.{Holder}
 use Rattle.exif_catalog.specs.declared.moving.Holder.TheVariants as holder
@@ -67,12 +65,3 @@ paths_of moved = (moved.old.now, moved.new.now)
 -- the same of texts of its own
 abbrev pub moved_paths : Move → List ℕ × List ℕ
 moved_paths moved = (string_bytes moved.old, string_bytes moved.new)
-
--- the pictures of a side, with one more where it is of that side
-abbrev pub gone_with : Side → List Hashed → Hashed → List Hashed
-gone_with side.Gone pictures picture = pictures ++ picture ∷ []
-gone_with side.New pictures picture = pictures
-
-abbrev pub new_with : Side → List Hashed → Hashed → List Hashed
-new_with side.Gone pictures picture = pictures
-new_with side.New pictures picture = pictures ++ picture ∷ []

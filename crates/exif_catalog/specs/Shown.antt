@@ -1,5 +1,5 @@
 -- The texts of values that SQLite answers.
-use Rattle.std.specs.Prelude.{◌≡◌, ℕ, List, [], ◌∷◌, ◌++◌, Option, Some, None, IsSome, map, option_and_then, option_map, slice_get, unwrap_or, ⊤}
+use Rattle.std.specs.Prelude.{◌≡◌, ℕ, List, [], ◌∷◌, ◌++◌, codes, Option, Some, None, IsSome, map, option_and_then, option_map, slice_get, unwrap_or, ⊤}
 use Rattle.std.specs.String.{string_bytes}
 use Rattle.std.specs.Fmt.{signed_decimal}
 use Rattle.std.specs.List.{join_with_byte}
@@ -8,7 +8,14 @@ use Rattle.sqlite_value.specs.declared.value.Value.{Value}
 use Rattle.sqlite_value.specs.declared.value.Value.TheVariants as value
 use Rattle.sqlite_value.specs.declared.value.ValueRef.{ValueRef}
 use Rattle.sqlite_value.specs.declared.value.ValueRef.TheVariants as ref
-use Rattle.exif_catalog.specs.Cells.{gap_before, tsv_field}
+use Rattle.sqlite.specs.Held.{Held, state}
+use Rattle.sqlite.specs.Listing.{understood}
+use Rattle.sqlite.specs.Outline.{Outline}
+use Rattle.sqlite.specs.State.{IsUnchanged}
+use Rattle.sqlite.specs.Steps.{Outlines}
+use Rattle.sqlite.specs.Store.{Ghosts}
+use Rattle.exif_catalog.specs.Cells.{gap_before, names_line, tsv_field}
+use Rattle.exif_catalog.specs.Reading.{HandsEach}
 use Rattle.exif_catalog.specs.Values.{text_of}
 use Rattle.exif_catalog.specs.declared.visiting.PictureRow.{PictureRow}
 use Rattle.exif_catalog.specs.declared.visiting.Texts.{Texts}
@@ -82,3 +89,24 @@ row_texts row =
     ∷ map (λ text. option_map (λ t. t.now) text) (row.date_taken ∷ row.make ∷ row.model
     ∷ row.exposure_time ∷ row.f_number ∷ row.iso ∷ row.focal_length ∷ row.latitude
     ∷ row.longitude ∷ row.orientation ∷ [])
+
+-- what is handed on of a row: its line
+abbrev pub HandsLine : {X : Type 0} → (X → List ℕ → X → Type 0) → X → Row → X → Type 0
+HandsLine takes old row new = (text : List ℕ) × AddsRow row [] text
+    × takes old (text ++ codes "\n") new
+
+-- what is shown of a row: its picture
+abbrev pub HandsPicture : {X : Type 0} → (X → List (Option (List ℕ)) → X → Type 0) → X → Row → X
+    → Type 0
+HandsPicture visits old row new = (texts : Texts)
+    × AllOf IsShown row (map (option_map string_bytes) texts.texts.items)
+    × visits old (texts_of_row texts) new
+
+-- A query is answered: the line of the columns' names is handed on, and behind it those of the rows.
+abbrev pub Answers : {S X : Type 0} → Ghosts S → (X → List ℕ → X → Type 0) → List ℕ → Held S
+    → Held S → X → X → ℕ → Type 0
+Answers {S} {X} g takes sql old new was is count =
+    (columns : Outline) × (begun : Held S) × (named : X)
+    × Outlines (understood old.schema sql) columns × IsUnchanged (state g old) (state g begun)
+    × takes was (names_line columns.columns ++ codes "\n") named
+    × HandsEach g (HandsLine takes) sql begun new named is count

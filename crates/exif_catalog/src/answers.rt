@@ -1,13 +1,16 @@
 //! Answers of a database as text.
 
-ghost use Rattle.std.specs.Prelude.{◌≡◌, ◌<◌, ◌++◌, [], Err, IfErr, IsTrue, OnOk, codes, false, length};
+ghost use Rattle.std.specs.Prelude.{◌≡◌, ◌⊎◌, ◌<◌, ◌++◌, ℕ, List, [], Err, IfErr, IfOk, IsTrue, OnOk, codes, false, length};
+ghost use Rattle.sqlite.specs.Held.{state};
+ghost use Rattle.sqlite.specs.State.{CommitsShowing, HasCleanDisk, Survives};
 ghost use Rattle.exif_catalog.specs.Cells.{is_query, names_line};
 ghost use Rattle.exif_catalog.specs.Errors.{is_hand_error};
-ghost use Rattle.exif_catalog.specs.Shown.{AddsCell, AddsRow};
+ghost use Rattle.exif_catalog.specs.Reading.{FailsToHand, HandsEach};
+ghost use Rattle.exif_catalog.specs.Shown.{AddsCell, AddsRow, Answers, HandsLine};
 
 use crate::cells::{is_query, push_gap, push_text, push_value};
 use crate::database::{Job, prepare};
-use crate::errors::{CatalogError, RunError};
+use crate::errors::{CatalogError, RunError, too_many};
 use crate::heads::check_existing;
 use crate::opening::run_reading;
 use sqlite::types::Bytes;
@@ -19,8 +22,12 @@ pub trait Lines {
     /// Why it takes no more.
     type Error: Drop;
 
+    /// What it is before a line, the line, and what it is once it took it.
+    ghost takes: { Self → List ℕ → Self → Type 0 } = { λ _ _ _. Unit {0} };
+
     /// Takes a line, which ends with a line feed.
-    fn take(&mut self, line: &[u8]) -> Result<(), Self::Error>;
+    fn take(&mut self, line: &[u8]) -> Result<(), Self::Error>
+        ensures taken { OnOk result (takes self.old line.now self.new) };
 }
 
 // Ends a line.
@@ -32,6 +39,8 @@ fn end_line(line: &mut Vec<u8>) -> Result<(), AllocError>
 
 // Hands a line on, and empties it.
 fn hand_on<L: Lines>(lines: &mut L, line: &mut Vec<u8>) -> Result<(), RunError<L::Error>>
+    ensures taken { OnOk result
+        (L.takes lines.old (line.old.items ++ codes "\n") lines.new) }
     ensures empty { OnOk result (line.new.items ≡ []) }
     ensures named { IfErr result (λ e. IsTrue (is_hand_error e)) }
 {
@@ -85,19 +94,26 @@ fn answer_rows<S: Alter, L: Lines>(
     database: &mut Connection<S>,
     statement: &Statement,
     lines: &mut L,
-) -> Result<u64, RunError<L::Error>> {
+) -> Result<u64, RunError<L::Error>>
+    ensures rows { HasCleanDisk (state S.Store database.new) → IfOk result
+        (HandsEach S.Store (HandsLine L.takes) statement.now.text database.old database.new
+        lines.old lines.new) }
+    ensures refused { HasCleanDisk (state S.Store database.new) → IfErr result
+        (λ e. IsTrue (is_hand_error e) ⊎ ((why : CatalogError) × (e ≡ RunError.Catalog why)
+        × FailsToHand S.Store statement.now.text database.old database.new why)) }
+    ensures survives { Survives (state S.Store database.old) (state S.Store database.new)
+        (CommitsShowing statement.now.text [] (state S.Store database.old)) }
+{
     let mut line = Vec::new(alloc);
-    let mut count = 0u64;
-    let mut rows = statement.query(database, &[])?;
-    for _ in 0..u64::MAX {
-        let Some(row) = rows.next()? else {
-            break;
+    let mut answer = database.query_prepared(statement, &[])?;
+    'rows: for count in 0..u64::MAX {
+        let Some(row) = answer.next()? else {
+            return Ok(count);
         };
         push_row(alloc, &mut line, row)?;
         hand_on(lines, &mut line)?;
-        count = count.saturating_add(1);
     }
-    Ok(count)
+    Err(RunError::Catalog(too_many()))
 }
 
 // Hands on the line of names, and the rows.
@@ -106,7 +122,10 @@ fn answer<S: Alter, L: Lines>(
     database: &mut Connection<S>,
     sql: &str,
     lines: &mut L,
-) -> Result<u64, RunError<L::Error>> {
+) -> Result<u64, RunError<L::Error>>
+    ensures answers { HasCleanDisk (state S.Store database.new) → IfOk result
+        (Answers S.Store L.takes sql.now database.old database.new lines.old lines.new) }
+{
     let statement = prepare(database, sql)?;
     let mut line = Vec::new(alloc);
     push_names(&mut line, statement.column_names())?;

@@ -1,18 +1,19 @@
 //! A run over a catalogue: rows that follow the pictures of a run.
 
-ghost use Rattle.std.specs.Prelude.{◌≡◌, ◌⊎◌, ℕ, List, IfErr, IfOk, Err, Ok, OnErr, OnOk, Some, false, is_some, map, string_bytes, true};
+ghost use Rattle.std.specs.Prelude.{◌≡◌, ◌⊎◌, ℕ, List, [], IfErr, IfOk, Err, Ok, OnErr, OnOk, Some, false, is_some, map, string_bytes, true};
 ghost use Rattle.std.specs.BTreeMap.{get_by_text};
 ghost use Rattle.exif_catalog.specs.Totals.{outcome_of};
 ghost use Rattle.exif_catalog.specs.Parameters.{bound, parameter_of};
 ghost use Rattle.exif_catalog.specs.Values.{stored};
 ghost use Rattle.exif_catalog.specs.Known.{is_no, known_from, stamp_from};
-ghost use Rattle.sqlite.specs.Held.{state};
-ghost use Rattle.sqlite.specs.State.{CommitsBy, HasCleanDisk, Survives};
+ghost use Rattle.sqlite.specs.Held.{Held, state};
+ghost use Rattle.sqlite.specs.State.{CommitsBy, CommitsShowing, HasCleanDisk, Survives};
 ghost use Rattle.sqlite.specs.Values.{bound as bound_row, bound_value};
 ghost use Rattle.sqlite_value.specs.Value.{owned};
 ghost use Rattle.exif_summary.specs.Columns.{columns};
 ghost use Rattle.exif_catalog.specs.Schema.{insert_text};
 ghost use Rattle.exif_catalog.specs.Statements.{RunsWith, WritesRow, amount_at, entry_at, known_at as known_in, mark_parameters, mark_row, parameter_value, path_parameter, stamp_at};
+ghost use Rattle.exif_catalog.specs.Reading.{DeletesEach, FailsToDelete, FailsToRead, OpensCatalog, ReadsMoves, ReadsRows, read_rows};
 ghost use Rattle.exif_catalog.specs.Runs.{forgotten, has_path, has_stamp_of, known_after, known_at, marks_in};
 
 use crate::database::{number_at, prepare, prepare_tables, text_at};
@@ -125,22 +126,30 @@ fn entry_of(alloc: Global, row: &Row, needs_hash: bool) -> Result<(String, Known
     Ok((path, known))
 }
 
-// What is known of all pictures.
+// What is known of all pictures. As many rows as a count can't tell are out of memory, too.
 fn read_rows<S: Alter>(
     alloc: Global,
     database: &mut Connection<S>,
     needs_hash: bool,
-) -> Result<Rows, CatalogError> {
+) -> Result<Rows, CatalogError>
+    ensures rows { HasCleanDisk (state S.Store database.new) → IfOk result
+        (ReadsRows S.Store needs_hash database.old database.new) }
+    ensures refused { HasCleanDisk (state S.Store database.new) → IfErr result
+        (λ e. (e ≡ CatalogError.OutOfMemory) ⊎ FailsToRead S.Store read_rows
+        (λ cells. entry_at cells needs_hash) database.old database.new e) }
+    ensures survives { Survives (state S.Store database.old) (state S.Store database.new)
+        (CommitsShowing read_rows [] (state S.Store database.old)) }
+{
     let mut rows = Rows::new(alloc);
     let mut answer = database.query(READ_ROWS, &[])?;
-    for _ in 0..u64::MAX {
+    'rows: for _ in 0..u64::MAX {
         let Some(row) = answer.next()? else {
-            break;
+            return Ok(rows);
         };
         let (path, known) = entry_of(alloc, row, needs_hash)?;
         rows.insert(path, known)?;
     }
-    Ok(rows)
+    Err(CatalogError::OutOfMemory)
 }
 
 // A value as a parameter of the text that writes a row.
@@ -213,12 +222,21 @@ fn delete_row<S: Alter>(
 ) -> Result<(), CatalogError>
     ensures runs { HasCleanDisk (state S.Store database.new) → RunsWith S.Store delete.now.text
         (path_parameter path.now) database.old database.new result }
+    ensures clean { HasCleanDisk (state S.Store database.new)
+        → HasCleanDisk (state S.Store database.old) }
 {
     write(database, delete, params![path])
 }
 
 // Takes the rows of the old paths away.
-fn delete_rows<S: Alter>(database: &mut Connection<S>, moves: &[Move]) -> Result<(), CatalogError> {
+fn delete_rows<S: Alter>(database: &mut Connection<S>, moves: &[Move]) -> Result<(), CatalogError>
+    ensures deletes { HasCleanDisk (state S.Store database.new) → OnOk result
+        (DeletesEach S.Store database.old moves.now database.new) }
+    ensures refused { HasCleanDisk (state S.Store database.new) → IfErr result
+        (FailsToDelete S.Store database.old moves.now database.new) }
+    ensures clean { HasCleanDisk (state S.Store database.new)
+        → HasCleanDisk (state S.Store database.old) }
+{
     let delete = prepare(database, DELETE_ROW)?;
     for moved in moves {
         delete_row(database, &delete, moved.old.as_str())?;
@@ -248,6 +266,8 @@ impl Catalog {
             → IfOk result (λ it. it.insert.text ≡ insert_text columns) }
         ensures mark { HasCleanDisk (state S.Store database.new)
             → IfOk result (λ it. it.mark.text ≡ mark_row) }
+        ensures known { HasCleanDisk (state S.Store database.new) → IfOk result
+            (λ it. OpensCatalog S.Store needs_hash database.old database.new it.rows) }
     {
         prepare_tables(alloc, database)?;
         let rows = read_rows(alloc, database, needs_hash)?;
@@ -312,6 +332,9 @@ impl Catalog {
         database: &mut Connection<S>,
         roots: &[&str],
     ) -> Result<Vec<Move>, CatalogError>
+        ensures moves { HasCleanDisk (state S.Store database.new) → IfOk result
+            (λ moves. (read : Held S) × ReadsMoves S.Store (known_at self.old) roots.now
+            database.old read moves.items × DeletesEach S.Store read moves.items database.new) }
         ensures forgotten { IfOk result (λ moves. (q : List ℕ) → known_at self.new q
             ≡ forgotten moves.items (known_at self.old q) q) }
         ensures failed { OnErr result (self.new ≡ self.old) }

@@ -4,6 +4,8 @@ ghost use Rattle.std.specs.Prelude.{◌≡◌, ◌⊎◌, [], Ok, Err, string_by
 ghost use Rattle.sqlite_value.specs.Order.{Row as SqlRow};
 ghost use Rattle.sqlite.specs.Held.{state};
 ghost use Rattle.sqlite.specs.State.{CommitsBy, HasCleanDisk, IsNotRun, IsUnchanged, Survives};
+ghost use Rattle.sqlite.specs.Listing.{understood};
+ghost use Rattle.sqlite.specs.Steps.{Outlines};
 ghost use Rattle.exif_catalog.specs.Errors.{database_error};
 ghost use Rattle.exif_catalog.specs.Statements.{Asks, AsksCatalog, AsksTable, AsksVersion, Begins, ByTables, ChecksAs, Commits, FindsTables, IsText, MakesRest, MakesTables, PreparesAs, Runs, number_at, read_create, read_version, table_answer, text_at, texts_at, version_answer};
 
@@ -50,6 +52,8 @@ pub(crate) fn prepare<S: Alter>(
 ) -> Result<Statement, CatalogError>
     ensures text { HasCleanDisk (state S.Store database.new)
         → IfOk result (λ s. s.text ≡ sql.now) }
+    ensures shape { HasCleanDisk (state S.Store database.new) → IfOk result
+        (Outlines (understood (state S.Store database.old).now.schema sql.now)) }
     ensures same { HasCleanDisk (state S.Store database.new) → OnOk result
         (IsUnchanged (state S.Store database.old) (state S.Store database.new)) }
     ensures refused { HasCleanDisk (state S.Store database.new)

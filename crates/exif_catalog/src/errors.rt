@@ -1,6 +1,8 @@
 //! Why a catalogue cannot be used.
 
 ghost use Rattle.std.specs.Prelude.{◌≡◌};
+ghost use Rattle.sqlite.specs.declared.error.Error.TheVariants.{SqliteFailure};
+ghost use Rattle.sqlite.specs.declared.error.ErrorCode.TheVariants.{OperationInterrupted};
 ghost use Rattle.exif_catalog.specs.Errors.{database_error, file_error};
 ghost use Rattle.exif_catalog.specs.declared.errors.CatalogError.TheVariants as catalog;
 ghost use Rattle.exif_catalog.specs.declared.errors.RunError.TheVariants as run;
@@ -50,6 +52,13 @@ pub enum RunError<E> {
     Catalog(CatalogError),
     /// What the caller gave.
     Caller(E),
+}
+
+/// A query shows more rows than a count can tell.
+pub(crate) fn too_many() -> CatalogError
+    ensures { result ≡ catalog.Database (SqliteFailure OperationInterrupted) }
+{
+    CatalogError::Database(Error::SqliteFailure(ErrorCode::OperationInterrupted))
 }
 
 impl fmt::Display for CatalogError {

@@ -1,8 +1,11 @@
 //! The moves of a run, by the hashes of rows.
 
-ghost use Rattle.std.specs.Prelude.{◌≡◌, ◌⊎◌, Err, IfErr, IfOk, Ok, OnOk, map, option_map};
+ghost use Rattle.std.specs.Prelude.{◌≡◌, ◌⊎◌, ◌++◌, [], Err, IfErr, IfOk, Ok, OnOk, map, option_map};
 ghost use Rattle.std.specs.BTreeMap.{get_by_text};
-ghost use Rattle.exif_catalog.specs.Moves.{gone_with, moved_paths, moves_of, new_with};
+ghost use Rattle.sqlite.specs.Held.{state};
+ghost use Rattle.sqlite.specs.State.{CommitsShowing, HasCleanDisk, Survives};
+ghost use Rattle.exif_catalog.specs.Moves.{moved_paths, moves_of};
+ghost use Rattle.exif_catalog.specs.Reading.{FailsToRead, ReadsMoves, ReadsSides, gone_in, hashed_parts, new_in, read_hashes};
 ghost use Rattle.exif_catalog.specs.Statements.{hashed_at, parts_of};
 
 use crate::database::text_at;
@@ -30,16 +33,17 @@ struct Sides {
 }
 
 impl Sides {
-    // Adds a picture to its side.
-    fn add(&mut self, side: Side, picture: Hashed) -> Result<(), AllocError>
-        ensures gone { OnOk result (self.new.gone.items
-            ≡ gone_with side self.old.gone.items picture) }
-        ensures fresh { OnOk result (self.new.fresh.items
-            ≡ new_with side self.old.fresh.items picture) }
+    // Adds a picture to its side, if it is of one.
+    fn add(&mut self, found: Option<(Side, Hashed)>) -> Result<(), AllocError>
+        ensures gone { OnOk result (map hashed_parts self.new.gone.items
+            ≡ map hashed_parts self.old.gone.items ++ gone_in (option_map parts_of found)) }
+        ensures fresh { OnOk result (map hashed_parts self.new.fresh.items
+            ≡ map hashed_parts self.old.fresh.items ++ new_in (option_map parts_of found)) }
     {
-        match side {
-            Side::Gone => self.gone.push(picture)?,
-            Side::New => self.fresh.push(picture)?,
+        match found {
+            Some((Side::Gone, picture)) => self.gone.push(picture)?,
+            Some((Side::New, picture)) => self.fresh.push(picture)?,
+            None => {}
         }
         Ok(())
     }
@@ -73,21 +77,28 @@ fn read_sides<S: Alter>(
     database: &mut Connection<S>,
     rows: &Rows,
     roots: &[&str],
-) -> Result<Sides, CatalogError> {
+) -> Result<Sides, CatalogError>
+    ensures sides { HasCleanDisk (state S.Store database.new) → IfOk result
+        (λ it. ReadsSides S.Store (get_by_text rows.now) roots.now database.old database.new
+        it.gone.items it.fresh.items) }
+    ensures refused { HasCleanDisk (state S.Store database.new) → IfErr result
+        (λ e. (e ≡ CatalogError.OutOfMemory) ⊎ FailsToRead S.Store read_hashes
+        (hashed_at (get_by_text rows.now) roots.now) database.old database.new e) }
+    ensures survives { Survives (state S.Store database.old) (state S.Store database.new)
+        (CommitsShowing read_hashes [] (state S.Store database.old)) }
+{
     let mut sides = Sides {
         gone: Vec::new(alloc),
         fresh: Vec::new(alloc),
     };
     let mut answer = database.query(READ_HASHES, &[])?;
-    for _ in 0..u64::MAX {
+    'rows: for _ in 0..u64::MAX {
         let Some(row) = answer.next()? else {
-            break;
+            return Ok(sides);
         };
-        if let Some((side, picture)) = hashed_of(alloc, row, rows, roots)? {
-            sides.add(side, picture)?;
-        }
+        sides.add(hashed_of(alloc, row, rows, roots)?)?;
     }
-    Ok(sides)
+    Err(CatalogError::OutOfMemory)
 }
 
 // The moves that are found among them.
@@ -113,7 +124,16 @@ pub(crate) fn read_moves<S: Alter>(
     database: &mut Connection<S>,
     rows: &Rows,
     roots: &[&str],
-) -> Result<Vec<Move>, CatalogError> {
+) -> Result<Vec<Move>, CatalogError>
+    ensures moves { HasCleanDisk (state S.Store database.new) → IfOk result
+        (λ moves. ReadsMoves S.Store (get_by_text rows.now) roots.now database.old database.new
+        moves.items) }
+    ensures refused { HasCleanDisk (state S.Store database.new) → IfErr result
+        (λ e. (e ≡ CatalogError.OutOfMemory) ⊎ FailsToRead S.Store read_hashes
+        (hashed_at (get_by_text rows.now) roots.now) database.old database.new e) }
+    ensures survives { Survives (state S.Store database.old) (state S.Store database.new)
+        (CommitsShowing read_hashes [] (state S.Store database.old)) }
+{
     let sides = read_sides(alloc, database, rows, roots)?;
     Ok(find_moves(alloc, &sides)?)
 }

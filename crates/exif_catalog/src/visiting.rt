@@ -1,10 +1,15 @@
 //! The pictures of a catalogue, one after the other.
 
-ghost use Rattle.std.specs.Prelude.{◌≡◌, IfErr, IfOk, map, option_map, string_bytes};
-ghost use Rattle.exif_catalog.specs.Shown.{AllOf, IsShown, Shows, row_texts, text_at, texts_of_row};
+ghost use Rattle.std.specs.Prelude.{◌≡◌, ◌⊎◌, ℕ, List, [], Option, IfErr, IfOk, IsTrue, OnOk, map, option_map, string_bytes};
+ghost use Rattle.sqlite.specs.Held.{state};
+ghost use Rattle.sqlite.specs.State.{CommitsShowing, HasCleanDisk, Survives};
+ghost use Rattle.exif_catalog.specs.Errors.{is_hand_error};
+ghost use Rattle.exif_catalog.specs.Reading.{FailsToHand, HandsEach};
+ghost use Rattle.exif_catalog.specs.Schema.{pictures_text, shown_columns};
+ghost use Rattle.exif_catalog.specs.Shown.{AllOf, HandsPicture, IsShown, Shows, row_texts, text_at, texts_of_row};
 
 use crate::database::{Job, check_tables};
-use crate::errors::{CatalogError, RunError};
+use crate::errors::{CatalogError, RunError, too_many};
 use crate::heads::check_existing;
 use crate::opening::run_reading;
 use crate::schema::pictures_text;
@@ -45,8 +50,12 @@ pub trait Visitor {
     /// Why it takes no more.
     type Error: Drop;
 
+    /// What it is before a picture, the texts of its row, and what it is once it took it.
+    ghost visits: { Self → List (Option (List ℕ)) → Self → Type 0 } = { λ _ _ _. Unit {0} };
+
     /// Takes a picture.
-    fn visit(&mut self, picture: &PictureRow<'_>) -> Result<(), Self::Error>;
+    fn visit(&mut self, picture: &PictureRow<'_>) -> Result<(), Self::Error>
+        ensures visited { OnOk result (visits self.old (row_texts picture.now) self.new) };
 }
 
 // The texts of a row, in the order of the columns.
@@ -111,23 +120,37 @@ impl Texts {
     }
 }
 
+// Shows a picture.
+fn show<V: Visitor>(visitor: &mut V, texts: &Texts) -> Result<(), RunError<V::Error>>
+    ensures shown { OnOk result (V.visits visitor.old (texts_of_row texts.now) visitor.new) }
+    ensures named { IfErr result (λ e. IsTrue (is_hand_error e)) }
+{
+    visitor.visit(&texts.row()).map_err(RunError::Caller)
+}
+
 // Shows the pictures.
 fn visit_rows<S: Alter, V: Visitor>(
     alloc: Global,
     database: &mut Connection<S>,
     visitor: &mut V,
-) -> Result<u64, RunError<V::Error>> {
-    let mut count = 0u64;
-    let mut rows = database.query(pictures_text(), &[])?;
-    for _ in 0..u64::MAX {
-        let Some(row) = rows.next()? else {
-            break;
+) -> Result<u64, RunError<V::Error>>
+    ensures rows { HasCleanDisk (state S.Store database.new) → IfOk result
+        (HandsEach S.Store (HandsPicture V.visits) (pictures_text shown_columns) database.old
+        database.new visitor.old visitor.new) }
+    ensures refused { HasCleanDisk (state S.Store database.new) → IfErr result
+        (λ e. IsTrue (is_hand_error e) ⊎ ((why : CatalogError) × (e ≡ RunError.Catalog why)
+        × FailsToHand S.Store (pictures_text shown_columns) database.old database.new why)) }
+    ensures survives { Survives (state S.Store database.old) (state S.Store database.new)
+        (CommitsShowing (pictures_text shown_columns) [] (state S.Store database.old)) }
+{
+    let mut answer = database.query(pictures_text(), &[])?;
+    'rows: for count in 0..u64::MAX {
+        let Some(row) = answer.next()? else {
+            return Ok(count);
         };
-        let texts = texts_of(alloc, row)?;
-        visitor.visit(&texts.row()).map_err(RunError::Caller)?;
-        count = count.saturating_add(1);
+        show(visitor, &texts_of(alloc, row)?)?;
     }
-    Ok(count)
+    Err(RunError::Catalog(too_many()))
 }
 
 // What is shown the pictures.
