@@ -1,5 +1,5 @@
 -- What is known by rows, one after the other.
-use Rattle.std.proofs.Common.{◌≡◌, ◌∙◌, ap, sym, refl, List, ℕ, [], ◌∷◌, ◌++◌, Option, Some, None, reverse, append-nil, ◌<◌, ◌+◌, arith, drop, get_or, inr, length, subst, take, Result, Ok, Err}
+use Rattle.std.proofs.Common.{◌≡◌, ◌∙◌, ap, sym, refl, List, ℕ, [], ◌∷◌, ◌++◌, Some, reverse, append-nil, ◌<◌, ◌+◌, drop, get_or, inr, length, subst, take, Ok, Err}
 use Rattle.std.proofs.lemmas.List.{drop_more, reverse-append, take-append-drop, take_more}
 use Rattle.std.proofs.lemmas.List.Concat.{flat_map-append}
 use Rattle.std.proofs.lemmas.Map.Text.{btree_map_updates_text}

@@ -1,10 +1,10 @@
 -- Rows that are read one at a time.
-use Rattle.std.proofs.Common.{◌≡◌, ◌⊎◌, ◌∙◌, inl, inr, ap, sym, refl, subst, append_assoc, append-nil, length, length-append, ℕ, ◌+◌, ◌-◌, ◌^◌, ◌≤◌, List, [], ◌∷◌, ◌++◌, Option, Some, None, Result, Ok, Err, arith, true, false}
+use Rattle.std.proofs.Common.{◌≡◌, ◌⊎◌, ◌∙◌, inl, inr, ap, sym, refl, subst, append_assoc, append-nil, length, length-append, ℕ, ◌+◌, ◌-◌, ◌^◌, ◌≤◌, List, [], ◌∷◌, ◌++◌, Option, Some, None, Result, Ok, Err, arith}
 use Rattle.sqlite_value.specs.Order.{Row}
 use Rattle.sqlite.specs.Store.{Ghosts}
 use Rattle.sqlite.specs.Held.{Held, state}
 use Rattle.sqlite.specs.Clock.{timed}
-use Rattle.sqlite.specs.Given.{Advances, FailsToAdvance, HandsOn, HasBegun, HasGiven, Returns}
+use Rattle.sqlite.specs.Given.{Advances, FailsToAdvance, HandsOn, HasBegun}
 use Rattle.sqlite.specs.Stream.{returned}
 use Rattle.std.specs.Borrow.{Bor}
 use Rattle.sqlite.specs.Next.{HasMoved}
@@ -20,7 +20,6 @@ use Rattle.sqlite.proofs.Callers.{unchanged_then}
 use Rattle.sqlite.proofs.StreamLemmas.{fails_since, given_plain}
 use Rattle.exif_catalog.specs.Errors.{database_error}
 use Rattle.exif_catalog.specs.Reading.{FailsToHand, FailsToRead, FailsToShow, HandsEach, HasShown, ReadsEach, Steps, each_of}
-use Rattle.exif_catalog.specs.Statements.{and_then}
 use Rattle.exif_catalog.proofs.Reading.{steps_more}
 use Rattle.exif_catalog.specs.declared.errors.CatalogError.{CatalogError}
 use Rattle.exif_catalog.specs.declared.errors.CatalogError.TheVariants as error

@@ -102,7 +102,7 @@ HandsPicture visits old row new = (texts : Texts)
     × AllOf IsShown row (map (option_map string_bytes) texts.texts.items)
     × visits old (texts_of_row texts) new
 
--- A query is answered: the line of the columns' names is handed on, and behind it those of the rows.
+-- A query is answered: the line of the columns' names is handed on, then those of the rows.
 abbrev pub Answers : {S X : Type 0} → Ghosts S → (X → List ℕ → X → Type 0) → List ℕ → Held S
     → Held S → X → X → ℕ → Type 0
 Answers {S} {X} g takes sql old new was is count =

@@ -1,8 +1,6 @@
-use Rattle.std.proofs.Common.{◌≡◌, ◌<◌, inl, inr, refl, rules, arith, length, Ok, Err, subst}
+use Rattle.std.proofs.Common.{◌≡◌, ◌<◌, inl, refl, rules, arith, length, Ok, Err, subst}
 use Rattle.std.proofs.lemmas.List.{take_all}
-use Rattle.sqlite.specs.Held.{state}
-use Rattle.sqlite.specs.State.{HasCleanDisk}
-use Rattle.exif_catalog.specs.Reading.{Deletes, Steps, delete_row}
+use Rattle.exif_catalog.specs.Reading.{Deletes, Steps}
 use Rattle.exif_catalog.proofs.Reading.{deleted_more, deleted_not}
 use Rattle.exif_catalog.proofs.catalog.delete_rows.Goals as goal
 

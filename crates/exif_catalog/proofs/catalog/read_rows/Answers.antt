@@ -1,10 +1,9 @@
 use Rattle.std.proofs.Common.{◌≡◌, ◌∙◌, inl, inr, ap, refl, rules, List, ℕ, Ok, Err, None}
 use Rattle.std.specs.BTreeMap.{get_by_text}
-use Rattle.std.specs.Prelude.{string_bytes}
 use Rattle.sqlite.specs.Held.{state}
 use Rattle.sqlite.specs.State.{HasCleanDisk}
 use Rattle.exif_catalog.specs.Errors.{database_error}
-use Rattle.exif_catalog.specs.Reading.{ReadsRows, known_by, read_rows}
+use Rattle.exif_catalog.specs.Reading.{ReadsRows, read_rows}
 use Rattle.exif_catalog.specs.Statements.{entry_at}
 use Rattle.exif_catalog.proofs.Reading.{put_more}
 use Rattle.exif_catalog.proofs.Streaming.{read_all, read_fails, read_none, read_on, read_refused}

@@ -1,13 +1,10 @@
-use Rattle.std.proofs.Common.{◌≡◌, ◌∙◌, inl, inr, ap, ap₂, sym, refl, rules, map, ◌++◌, List, ℕ, [], ◌∷◌, Ok, Err, Option}
-use Rattle.std.proofs.lemmas.List.Concat.{flat_map-append}
+use Rattle.std.proofs.Common.{◌≡◌, ◌∙◌, inl, inr, ap, refl, rules, Ok, Err}
 use Rattle.std.specs.BTreeMap.{get_by_text}
-use Rattle.std.specs.Prelude.{flat_map, option_map}
 use Rattle.sqlite.specs.Held.{state}
 use Rattle.sqlite.specs.State.{HasCleanDisk}
 use Rattle.exif_catalog.specs.Errors.{database_error}
-use Rattle.exif_catalog.specs.Reading.{ReadsSides, gone_in, hashed_parts, new_in, read_hashes}
-use Rattle.exif_catalog.specs.Statements.{hashed_at, parts_of}
-use Rattle.exif_catalog.specs.declared.known.Side.{Side}
+use Rattle.exif_catalog.specs.Reading.{ReadsSides, gone_in, new_in, read_hashes}
+use Rattle.exif_catalog.specs.Statements.{hashed_at}
 use Rattle.exif_catalog.proofs.Reading.{flat_more}
 use Rattle.exif_catalog.proofs.Streaming.{read_all, read_fails, read_none, read_on, read_refused}
 use Rattle.exif_catalog.proofs.hashes.read_sides.Goals as goal

@@ -1,4 +1,4 @@
-use Rattle.std.proofs.Common.{◌≡◌, List, [], ℕ, Option, map}
+use Rattle.std.proofs.Common.{◌≡◌, [], map}
 use Rattle.std.specs.BTreeMap.{get_by_text}
 use Rattle.std.specs.Prelude.{flat_map}
 use Rattle.sqlite.specs.Held.{state}

@@ -1,4 +1,4 @@
-use Rattle.std.proofs.Common.{◌≡◌, ◌∙◌, [], ◌-◌, ◌^◌, inl, inr, ap, refl, rules, arith, Ok, Err}
+use Rattle.std.proofs.Common.{◌≡◌, ◌∙◌, [], inl, inr, ap, refl, rules, arith, Ok, Err}
 use Rattle.sqlite.specs.Held.{state}
 use Rattle.sqlite.specs.State.{CommitsShowing, HasCleanDisk, Survives}
 use Rattle.exif_catalog.specs.Errors.{database_error}
