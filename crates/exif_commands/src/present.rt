@@ -143,7 +143,7 @@ pub fn find_begun(
                 return Ok(Some(moves));
             }
         }
-        free = number + 1;
+        free = number.saturating_add(1);
     }
     // a sidecar may have its new path, and the picture none yet
     if sidecars > 0 {
