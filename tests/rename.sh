@@ -268,8 +268,9 @@ rm -rf begun && mkdir begun
 cp files/whole.jpg begun/IMG_1.jpg
 echo one >begun/IMG_1.xmp
 ln begun/IMG_1.xmp "begun/$stamp.xmp"
-gives "so is one of which the sidecar was moved" 0 "$mexaldor" rename -r '%Y%m%d_%H%M%S' begun
+gives "so is one of which the sidecar was moved, which was found alone" 3 "$mexaldor" rename -r '%Y%m%d_%H%M%S' begun
 check "both have the new name" test "$(ls begun | tr '\n' ' ')" = "$stamp.jpg $stamp.xmp "
+gives "the next run finds them together" 0 "$mexaldor" rename -r '%Y%m%d_%H%M%S' begun
 rm -rf begun sorted && mkdir begun sorted
 cp files/whole.jpg begun/IMG_1.jpg
 ln begun/IMG_1.jpg "sorted/$stamp.jpg"
