@@ -259,8 +259,16 @@ says "and the fault is reported" "files/faulty.jpg: 1 fault was skipped"
 if has chromium; then
     chromium --headless --no-sandbox --disable-gpu --window-size=800,600 --screenshot="$PWD/page.png" "file://$PWD/page.html" >/dev/null 2>&1
     check "chromium shows the page" test -s page.png
-    chromium --headless --no-sandbox --disable-gpu --virtual-time-budget=5000 --dump-dom "file://$PWD/page.html" >dom 2>/dev/null
+    # the page makes thumbnails when chromium draws its cards; a busy machine may end a run before it has drawn one
+    thumbnails_shown() {
+        for _ in 1 2 3 4 5 6 7 8 9 10 11 12 13 14 15 16 17 18 19 20; do
+            chromium --headless --no-sandbox --disable-gpu --virtual-time-budget=5000 --run-all-compositor-stages-before-draw \
+                --dump-dom "file://$PWD/page.html" >dom 2>/dev/null
+            grep -q '<span class="thumb"><img alt="sample.jpg" src="data:image/jpeg;base64,/9j/' dom && return
+        done
+        return 1
+    }
+    check "and their thumbnails" thumbnails_shown
     check "with its pictures" grep -q 'sample.jpg' dom
-    check "and their thumbnails" grep -q '<span class="thumb"><img alt="sample.jpg" src="data:image/jpeg;base64,/9j/' dom
 fi
 ends

@@ -65,6 +65,22 @@ fresh() {
     cp -r files work
 }
 
+# boxes FILE: the types of the boxes in a JPEG XL file, with their bytes but for Exif data.
+boxes() {
+    python3 -c '
+import struct, sys
+
+data = open(sys.argv[1], "rb").read()
+at = 0
+while at < len(data):
+    (size,) = struct.unpack_from(">I", data, at)
+    end = at + size if size else len(data)
+    name = data[at + 4 : at + 8].decode()
+    print(name, "" if name == "Exif" else data[at:end].hex())
+    at = end
+assert at == len(data)' "$1"
+}
+
 # nothing_beside: no hidden file is left beside those that were made.
 nothing_beside() {
     left=$(find work -name '.*mexaldor*')

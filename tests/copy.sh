@@ -21,6 +21,37 @@ for file in plain.jpg plain.webp plain.png; do
     # a WebP file gets the chunk that says what it has
     [ "$file" = plain.webp ] || check "nothing else of $file changed" cmp before after
 done
+for picture in plain xmp last; do
+    file=work/$picture.jxl
+    gives "Exif data are put into $picture.jxl" 0 "$mexaldor" copy "$sample" "$file"
+    fields "$file" >found
+    check "its fields are those of the sample" cmp expected found
+    boxes "files/$picture.jxl" | grep -v '^Exif' >old
+    boxes "$file" >new
+    check "they are behind the file's type" test "$(sed -n 3p new)" = "Exif "
+    check "its other boxes stay, in their order" sh -c 'grep -v "^Exif" new | cmp old -'
+    if has exiftool; then
+        exiftool -s3 -Model -Orientation -DateTimeOriginal "$sample" >old
+        check "exiftool reads the same" sh -c 'exiftool -s3 -Model -Orientation -DateTimeOriginal "$0" | cmp old -' "$file"
+    fi
+done
+head -c $(($(wc -c <files/whole.jxl) - 1)) files/whole.jxl >cut.jxl
+gives "data are put into a JPEG XL file that is cut off" 3 "$mexaldor" copy "$sample" cut.jxl
+says "which is reported" "cut.jxl: The file is cut off"
+fields cut.jxl >found
+check "its fields are those of the sample" cmp expected found
+cp files/brob.jxl packed.jxl
+gives "compressed Exif data are replaced" 0 "$mexaldor" copy "$sample" packed.jxl
+check "and are gone" sh -c '! grep -aq brob packed.jxl'
+fields packed.jxl >found
+check "the new ones are read" cmp expected found
+printf '\377\012\372\037' >naked.jxl
+gives "a codestream without a container gets none" 1 "$mexaldor" copy "$sample" naked.jxl
+says "by name" "naked.jxl: JPEG XL codestream without a container"
+cp files/plain.jxl packet.jxl
+gives "nor does a JPEG XL file get a packet" 1 "$mexaldor" copy --xmp files/xmp.png packet.jxl
+says "by name" "packet.jxl: packets and profiles are copied into JPEG, WebP and PNG files only"
+check "and it stays" cmp files/plain.jxl packet.jxl
 gives "data of other formats are found" 0 "$mexaldor" copy work/whole.webp work/plain.jpg
 fields work/whole.webp >expected
 fields work/plain.jpg >found

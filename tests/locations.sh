@@ -81,8 +81,13 @@ for file in frame_exif.webp frame_unknown.webp; do
     stays "$file" 1 "unknown data at offset"
 done
 stays frame_xmp.webp 2 "unknown data at offset"
-gives "a chunk within a frame is left by scrub" 3 "$mexaldor" scrub --force files/frame_unknown.webp clean.webp
-says "and reported" "still there: unknown data at offset"
+for file in frame_exif.webp frame_xmp.webp frame_unknown.webp; do
+    gives "scrub takes the chunk within the frame out of $file" 0 "$mexaldor" scrub --force "files/$file" "clean.$file"
+    check "$file: no secret is left" test "$(secrets "clean.$file")" = 0
+    gives "and nothing of $file is left to be checked" 0 "$mexaldor" check --strict "clean.$file"
+    gives "$file is scrubbed again" 0 "$mexaldor" scrub --force "clean.$file" again.webp
+    check "$file: twice is once" cmp "clean.$file" again.webp
+done
 stays long_xmp.jpg 1 "part of a long XMP packet at offset"
 stays other_order.jpg 0 "part of a long XMP packet at offset"
 check "no byte of portions in another order is new" test "$(grep -aoE 'Zzy|zx47' new.other_order.jpg | wc -l)" = 4

@@ -1,22 +1,25 @@
 //! A catalogue that is brought up to date.
 
+ghost use Rattle.std.specs.Prelude.{◌≡◌, IfNone, IfOk, IfSome, None, Some, map, string_bytes};
+ghost use Rattle.exif_decisions.specs.Outcomes.{outcome_with};
+ghost use Rattle.exif_decisions.specs.declared.outcome.Outcome.TheVariants.{Done, Refused};
+ghost use Rattle.exif_catalog_commands.specs.Rows.{is_whole, known_stamp};
+ghost use Rattle.exif_catalog_commands.specs.Statuses.{IsStatus};
+
+use crate::reports::{move_text, refusal_of, totals_text};
+use crate::rows::{hash_of, is_hidden, is_whole, known_stamp, row_for};
 use exif::{Error, Exif, Sink};
-use exif_catalog::{
-    CatalogError, Found, Move, PictureFile, Pictures, RunError, SqlValue, Stamp, Totals, Updated,
-    is_below, row_values, text_of, update,
-};
-use exif_decisions::{self as decisions, Escaped, Outcome};
+use exif_catalog::{Found, Move, Pictures, RunError, SqlValue, Totals, Updated, text_of, update};
+use exif_decisions::{self as decisions, Outcome};
 use exif_formats::{Picture, PictureFormat};
-use exif_json::mime_type;
 use exif_report::found_of;
 use exif_session::{
     Cataloguing, FileStamp, Input, Next, Request, Session, Stop, absolute_of, open, read,
     read_file, stamp_of,
 };
-use sha2::{Digest, Sha256};
 use std::alloc::{AllocError, Global};
 use std::collections::BTreeSet;
-use std::io::{self, ErrorKind};
+use std::io;
 
 // The pictures of a run, one after the other.
 #[derive(Drop)]
@@ -39,8 +42,10 @@ struct Gathered<'s, 'r, 'a, 'd, 'c, W, E> {
 }
 
 impl<W: Sink, E: Sink> Gathered<'_, '_, '_, '_, '_, W, E> {
-    // Counts the picture that was given last.
-    fn end_picture(&mut self) {
+    // Counts the picture that was given last, once.
+    fn end_picture(&mut self)
+        ensures { self.new.outcome ≡ None }
+    {
         if let Some(outcome) = self.outcome {
             self.session.count(outcome);
             let left = self.session.pending.len();
@@ -59,7 +64,7 @@ impl<W: Sink, E: Sink> Gathered<'_, '_, '_, '_, '_, W, E> {
     // Reports a name that can't be followed. Unless nothing has it, what is below it is not known.
     fn fail(&mut self, path: String, cause: io::Error) -> Result<(), Stop> {
         self.refuse(path.as_str(), &cause)?;
-        if cause.kind() != ErrorKind::NotFound {
+        if is_hidden(cause.kind()) {
             self.failed
                 .push(absolute_of(self.session.rt, path.as_str())?)?;
         }
@@ -67,7 +72,12 @@ impl<W: Sink, E: Sink> Gathered<'_, '_, '_, '_, '_, W, E> {
     }
 
     // Begins with a picture. One that was there before, by whatever path, is not given again.
-    fn begin_picture(&mut self, shown: String) -> Result<Option<Found>, Stop> {
+    fn begin_picture(&mut self, shown: String) -> Result<Option<Found>, Stop>
+        ensures stamp { IfOk result (λ found. IfSome found
+            (λ found. found.stamp ≡ known_stamp self.new.stamp)) }
+        ensures begun { IfOk result (λ found. IfSome found (λ found.
+            (self.new.outcome ≡ Some Done) × (self.new.faults ≡ 0))) }
+    {
         let rt = self.session.rt;
         let path = absolute_of(rt, shown.as_str())?;
         if !self.seen.insert(path.clone()?)? {
@@ -92,24 +102,8 @@ impl<W: Sink, E: Sink> Gathered<'_, '_, '_, '_, '_, W, E> {
         exif: Option<&Exif>,
         hash: Option<&str>,
     ) -> Result<Vec<SqlValue>, AllocError> {
-        let (format, mime) = match format {
-            Some(format) => (Some(format.name()), Some(mime_type(format))),
-            None => (None, None),
-        };
-        let file = PictureFile {
-            path: self.path.as_bytes(),
-            size: self.stamp.size,
-            modified: self.stamp.modified,
-            modified_ns: self.stamp.modified_ns,
-            changed: self.stamp.changed,
-            changed_ns: self.stamp.changed_ns,
-            device: self.stamp.device,
-            inode: self.stamp.inode,
-            hash,
-            format,
-            mime,
-        };
-        row_values(self.session.rt.alloc(), &file, exif)
+        let alloc = self.session.rt.alloc();
+        row_for(alloc, self.path.as_bytes(), self.stamp, hash, format, exif)
     }
 
     // Reads the picture, and answers its row.
@@ -174,11 +168,17 @@ impl<W: Sink, E: Sink> Pictures for Gathered<'_, '_, '_, '_, '_, W, E> {
         Ok(None)
     }
 
-    fn needs_hash(&self) -> bool {
+    fn needs_hash(&self) -> bool
+        ensures { result ≡ self.now.cataloguing.now.hash }
+    {
         self.cataloguing.hash
     }
 
-    fn values(&mut self) -> Result<Option<Vec<SqlValue>>, Stop> {
+    fn values(&mut self) -> Result<Option<Vec<SqlValue>>, Stop>
+        ensures read { IfOk result (λ row. IfSome row
+            (λ _. self.new.outcome ≡ Some (outcome_with self.new.faults))) }
+        ensures refused { IfOk result (λ row. IfNone row (self.new.outcome ≡ Some Refused)) }
+    {
         match self.hashed_row() {
             Ok(values) => {
                 let outcome = self.session.skip_faults(self.shown.as_str(), self.faults)?;
@@ -193,34 +193,12 @@ impl<W: Sink, E: Sink> Pictures for Gathered<'_, '_, '_, '_, '_, W, E> {
         }
     }
 
-    // A picture that does not meet the conditions of a run is there all the same.
-    fn is_whole(&self, root: &str) -> bool {
-        !self.has_conditions && !self.failed.iter().any(|path| is_below(path.as_str(), root))
+    fn is_whole(&self, root: &str) -> bool
+        ensures { result ≡ is_whole self.now.has_conditions
+            (map string_bytes self.now.failed.items) root.now }
+    {
+        is_whole(self.has_conditions, self.failed.as_slice(), root)
     }
-}
-
-// What a file is, where all of that is known.
-fn known_stamp(stamp: FileStamp) -> Option<Stamp> {
-    Some(Stamp {
-        size: stamp.size?,
-        modified: stamp.modified?,
-        modified_ns: stamp.modified_ns?,
-        changed: stamp.changed?,
-        changed_ns: stamp.changed_ns?,
-        device: stamp.device?,
-        inode: stamp.inode?,
-    })
-}
-
-// The SHA-256 of bytes (FIPS 180-4), as hexadecimal digits.
-fn hash_of(alloc: Global, bytes: &[u8]) -> Result<String, AllocError> {
-    let digest = Sha256::digest(bytes);
-    let mut text = String::new(alloc);
-    for byte in digest {
-        let pair = format!(in alloc; "{byte:02x}")?;
-        text.push_str(pair.as_str())?;
-    }
-    Ok(text)
 }
 
 // The paths from the root of the file system on of the names that were given.
@@ -233,7 +211,10 @@ fn roots_of(rt: &HostRuntime, paths: &[&str]) -> Result<Vec<String>, AllocError>
 }
 
 // The texts of strings.
-fn texts_of(alloc: Global, strings: &[String]) -> Result<Vec<&str>, AllocError> {
+fn texts_of(alloc: Global, strings: &[String]) -> Result<Vec<&str>, AllocError>
+    ensures { IfOk result (λ texts. map (λ text. text.now) texts.items
+        ≡ map string_bytes strings.now) }
+{
     let mut texts = Vec::new(alloc);
     for string in strings {
         texts.push(string.as_str())?;
@@ -262,7 +243,9 @@ pub fn run_catalog<'r, W: Sink, E: Sink>(
     shows_progress: bool,
     out: &'r mut W,
     err: &'r mut E,
-) -> Result<u8, Stop> {
+) -> Result<u8, Stop>
+    ensures { IfOk result IsStatus }
+{
     let mut session = Session::begin(rt, request, shows_progress, out, err)?;
     update_catalog(&mut session, cataloguing)?;
     session.finish()
@@ -295,9 +278,10 @@ fn update_catalog<W: Sink, E: Sink>(
             report_moves(session, cataloguing.database, updated.moves.as_slice())?;
             report_totals(session, cataloguing, updated.totals)
         }
-        Err(RunError::Caller(stop)) => Err(stop),
-        Err(RunError::Catalog(CatalogError::OutOfMemory)) => Err(Stop::OutOfMemory),
-        Err(RunError::Catalog(error)) => session.refuse_beside(cataloguing.database, &error),
+        Err(error) => {
+            let refusal = refusal_of(error)?;
+            session.refuse_beside(cataloguing.database, &refusal)
+        }
     }
 }
 
@@ -311,14 +295,12 @@ fn report_moves<W: Sink, E: Sink>(
         return Ok(());
     }
     for moved in moves {
-        let (old, new) = (Escaped(moved.old.as_str()), Escaped(moved.new.as_str()));
-        let text = format!(in session.rt.alloc(); "moved: {old} -> {new}")?;
-        session.say(database, &text)?;
+        session.say(database, &move_text(session.rt.alloc(), moved)?)?;
     }
     Ok(())
 }
 
-// Reports what a run did with the rows. Moves are only known by hashes.
+// Reports what a run did with the rows.
 fn report_totals<W: Sink, E: Sink>(
     session: &mut Session<'_, '_, W, E>,
     cataloguing: &Cataloguing<'_>,
@@ -327,22 +309,6 @@ fn report_totals<W: Sink, E: Sink>(
     if session.request.quiet {
         return Ok(());
     }
-    let alloc = session.rt.alloc();
-    let Totals {
-        added,
-        moved,
-        changed,
-        unchanged,
-        refused: _,
-        removed,
-        restored,
-    } = totals;
-    let mut text = format!(in alloc;
-        "{added} added, {changed} changed, {unchanged} unchanged, {removed} removed, {restored} restored"
-    )?;
-    if cataloguing.hash {
-        let more = format!(in alloc; ", {moved} moved")?;
-        text.push_str(more.as_str())?;
-    }
+    let text = totals_text(session.rt.alloc(), totals, cataloguing.hash)?;
     session.say(cataloguing.database, &text)
 }

@@ -5,6 +5,8 @@
 mod catalog;
 mod page;
 mod query;
+mod reports;
+mod rows;
 
 pub use catalog::run_catalog;
 pub use page::write_page;

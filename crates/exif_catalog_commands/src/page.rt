@@ -1,7 +1,12 @@
 //! A page that shows the pictures of a catalogue.
 
+ghost use Rattle.std.specs.Prelude.{◌≡◌, ◌++◌, IfOk, string_bytes};
+ghost use Rattle.exif_decisions.specs.Paths.{slash_after};
+ghost use Rattle.exif_catalog_commands.specs.Pages.{facts_of, item_line, last_as, section_as, seen_as, shown};
+
 use exif::{Error, Sink};
 use exif_catalog::{CatalogError, PictureRow, RunError, Visitor, visit};
+use exif_decisions::slash_after;
 use exif_files::{Status, folder_of};
 use exif_page::{
     Exposure, Facts, Section, Thumbnail as Shown, end_html, entry_html, entry_of, foot_html,
@@ -34,7 +39,9 @@ enum LastSection {
 }
 
 impl LastSection {
-    fn section(&self) -> Section<'_> {
+    fn section(&self) -> Section<'_>
+        ensures { section_as result ≡ last_as self.now }
+    {
         match self {
             LastSection::Closed => Section::Closed,
             LastSection::Day(day) => Section::Day(day.as_str()),
@@ -42,7 +49,9 @@ impl LastSection {
         }
     }
 
-    fn of(alloc: Global, section: Section<'_>) -> Result<LastSection, AllocError> {
+    fn of(alloc: Global, section: Section<'_>) -> Result<LastSection, AllocError>
+        ensures { IfOk result (λ last. last_as last ≡ section_as section.entry) }
+    {
         match section {
             Section::Closed => Ok(LastSection::Closed),
             Section::Day(day) => Ok(LastSection::Day(String::from_str(alloc, day)?)),
@@ -52,7 +61,9 @@ impl LastSection {
 }
 
 // What a row says of its picture.
-fn facts_of<'a>(picture: &'a PictureRow<'_>, link: &'a str) -> Facts<'a> {
+fn facts_of<'a>(picture: &'a PictureRow<'_>, link: &'a str) -> Facts<'a>
+    ensures { result ≡ facts_of picture.now link.entry }
+{
     Facts {
         path: picture.path,
         link: Some(link),
@@ -88,7 +99,9 @@ impl<E: Sink> Page<'_, '_, '_, E> {
 }
 
 // What a card says of a thumbnail that is an item of a HEIF file.
-fn item_line(coding: Coding) -> &'static str {
+fn item_line(coding: Coding) -> &'static str
+    ensures { result.now ≡ item_line coding }
+{
     match coding {
         Coding::Hevc => "Thumbnail not shown: HEVC",
         Coding::Av1 => "Thumbnail not shown: AV1",
@@ -98,7 +111,9 @@ fn item_line(coding: Coding) -> &'static str {
 }
 
 // What a card has for a thumbnail.
-fn shown(found: &Option<Thumbnail>) -> Shown<'_> {
+fn shown(found: &Option<Thumbnail>) -> Shown<'_>
+    ensures { seen_as result ≡ shown found.now }
+{
     match found {
         Some(Thumbnail::Jpeg(jpeg)) => Shown::Jpeg(jpeg.as_slice()),
         Some(Thumbnail::TooLong) => Shown::Line("Thumbnail not shown: longer than 1 MiB"),
@@ -158,10 +173,16 @@ pub fn write_page<W: Sink, E: Sink>(
 // The folder that a page is written to, which ends with a slash; the one that the program runs in
 // for standard output.
 fn folder_in(rt: &HostRuntime, to: &str) -> Result<String, AllocError> {
-    let mut folder = absolute_of(rt, folder_of(to))?;
-    if !folder.as_str().ends_with('/') {
-        folder.push('/')?;
-    }
+    with_slash(absolute_of(rt, folder_of(to))?)
+}
+
+// A folder that ends with a slash.
+fn with_slash(mut folder: String) -> Result<String, AllocError>
+    ensures { IfOk result (λ text. string_bytes text
+        ≡ string_bytes folder ++ slash_after (string_bytes folder)) }
+{
+    let slash = slash_after(folder.as_str());
+    folder.push_str(slash)?;
     Ok(folder)
 }
 

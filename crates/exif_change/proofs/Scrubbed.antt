@@ -7,13 +7,13 @@ use Rattle.exif_segments.specs.Jpeg.{jpeg_answer}
 use Rattle.exif_segments.specs.declared.remove.Remove.{Remove}
 use Rattle.exif_parts.specs.Jpeg as parts
 use Rattle.exif_parts.specs.Laws.{Answers, answer_without}
+use Rattle.exif_parts.specs.Webp.{webp_rewritten}
 use Rattle.exif_parts.specs.Written.{Written}
 use Rattle.exif_parts.specs.declared.rewritten.Ended.{Ended}
 use Rattle.exif_parts.specs.declared.rewritten.Ended.TheVariants.{Whole, Cut}
 use Rattle.exif_parts.proofs.Answered.{answered, begun}
 use Rattle.exif_rewrite.specs.FileLaws.{AnswersPut, IsFound}
 use Rattle.exif_rewrite.specs.RewrittenFile.{file_rewriting, rewriting_as}
-use Rattle.exif_rewrite.specs.RewrittenWebp.{webp_rewriting}
 use Rattle.exif_rewrite.proofs.FileHeads.{jpeg_container}
 use Rattle.exif_change.specs.Changed.{Change, Undone, whole}
 use Rattle.exif_change.specs.Refusals.{Why, as_read, reading}
@@ -80,7 +80,7 @@ webp_ok (Err refusal) new e = absurd (not_whole (reading refusal) new e)
 
 webp_is : (remove : Remove) (put : Option (List ℕ)) (file : List ℕ)
     → format_in (take 4096 file) ≡ Some WebP
-    → file_rewriting remove put file ≡ webp_rewriting remove put file
+    → file_rewriting remove put file ≡ webp_rewritten remove put file
 unfolding file_rewriting rewriting_as
 webp_is remove put file is = ap (λ f. rewriting_as f remove put file) is
 
@@ -92,4 +92,4 @@ pub webp_answers : (remove : Remove) (put : Option (List ℕ)) (file new : List 
     → AnswersPut put (container_answer new)
 webp_answers remove put file new law is e short =
     law remove put file new
-    (webp_is remove put file is ∙ webp_ok (webp_rewriting remove put file) new e) short
+    (webp_is remove put file is ∙ webp_ok (webp_rewritten remove put file) new e) short

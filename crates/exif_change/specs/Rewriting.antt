@@ -5,10 +5,10 @@ use Rattle.exif_containers.specs.declared.container.Format.{Format}
 use Rattle.exif_containers.specs.declared.container.Format.TheVariants.{Tiff, Jpeg, Heif, WebP}
 use Rattle.exif_segments.specs.declared.remove.Remove.{Remove}
 use Rattle.exif_parts.specs.Jpeg as parts
+use Rattle.exif_parts.specs.Webp.{webp_rewritten}
 use Rattle.exif_parts.specs.Written.{Written}
 use Rattle.exif_parts.specs.declared.rewritten.Ended.{Ended}
 use Rattle.exif_parts.specs.declared.rewritten.Ended.TheVariants.{Whole, Cut}
-use Rattle.exif_rewrite.specs.RewrittenWebp.{webp_rewriting}
 use Rattle.exif_change.specs.Changed.{Change, whole}
 use Rattle.exif_change.specs.Changed as undone
 
@@ -34,7 +34,7 @@ if_whole (Err refusal) = Err refusal
 
 -- what a WebP file becomes
 abbrev pub rewritten_webp : Remove → Option (List ℕ) → List ℕ → Result Change Refusal
-rewritten_webp remove put file = if_whole (webp_rewriting remove put file)
+rewritten_webp remove put file = if_whole (webp_rewritten remove put file)
 
 -- what such a file becomes
 abbrev pub rewritten : Format → Remove → Option (List ℕ) → List ℕ → Result Change Refusal

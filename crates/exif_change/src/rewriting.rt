@@ -6,10 +6,10 @@ ghost use Rattle.exif_change.specs.Changed.{change_of};
 ghost use Rattle.exif_change.specs.Rewriting.{rewritten, rewritten_jpeg, rewritten_webp};
 
 use crate::changed::{Changed, Left};
-use exif::{Counted, Error};
+use exif::Error;
 use exif_containers::container::Format;
-use exif_parts::{Ended, rewrite_jpeg};
-use exif_rewrite::{Remove, rewrite_webp};
+use exif_parts::{Ended, rewrite_jpeg, rewrite_webp};
+use exif_rewrite::Remove;
 use std::alloc::Global;
 
 // A JPEG stream, as far as it goes, with other Exif data in place of what is taken out.
@@ -38,9 +38,8 @@ fn rewritten_webp(
 ) -> Result<Changed, Error>
     ensures { Gives change_of result (rewritten_webp remove (payload_of exif.entry) file.now) }
 {
-    let mut out = Counted::new(Vec::new(alloc));
-    rewrite_webp(alloc, &mut Counted::new(file), &mut out, exif, remove)?;
-    Ok(Changed::whole(alloc, out.into_inner()))
+    let new = rewrite_webp(alloc, file, remove, exif)?;
+    Ok(Changed::whole(alloc, new))
 }
 
 /// The JPEG or WebP file with other Exif data in place of what is taken out.

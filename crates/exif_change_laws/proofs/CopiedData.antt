@@ -9,26 +9,31 @@ use Rattle.exif_tiff.specs.Trace.{header}
 use Rattle.exif_segments.specs.declared.remove.Remove.{Remove}
 use Rattle.exif_segments.specs.declared.remove.Remove.TheVariants.{Exif}
 use Rattle.exif_containers.specs.Container as container
-use Rattle.exif_containers.specs.Container.{container_answer}
+use Rattle.exif_containers.specs.Container.{container_answer, data_of}
 use Rattle.exif_containers.specs.declared.container.Format.{Format}
 use Rattle.exif_containers.specs.declared.container.Format.TheVariants as known
 use Rattle.exif_formats.specs.Formats.{format_in, known_or, other_format_in}
+use Rattle.exif_formats.specs.Jxl.{jxl_answer}
 use Rattle.exif_formats.specs.Pictures.{png_data}
 use Rattle.exif_formats.specs.declared.format.PictureFormat.{PictureFormat}
 use Rattle.exif_formats.specs.declared.format.PictureFormat.TheVariants.{Tiff, Jpeg, Heif, WebP, Png, JpegXl, Raf, Orf, Rw2, Cr3}
-use Rattle.exif_containers.specs.Png.{png_answer}
+use Rattle.exif_parts.specs.Jxl.{jxl_rewritten}
+use Rattle.exif_parts.specs.Written.{Written}
+use Rattle.exif_parts.specs.declared.rewritten.Ended.{Ended}
+use Rattle.exif_parts.specs.declared.rewritten.Ended.TheVariants.{Whole, Cut}
 use Rattle.exif_rewrite.specs.FileLaws.{IsFound}
-use Rattle.exif_rewrite_png.specs.PngLaws.{Holds, IsAnswered}
-use Rattle.exif_rewrite_png.specs.RewrittenPng.{png_rewriting}
+use Rattle.exif_parts.specs.Png.{png_rewritten}
+use Rattle.exif_parts.specs.PngLaws.{PngIsAnswered}
 use Rattle.exif_change.specs.Changed.{Change, whole}
 use Rattle.exif_change.specs.Reading.{Contents, data_contents, entry_limit, fields_in, without_fault}
-use Rattle.exif_change.specs.Refusals.{Why, as_read, unknown_format, ◌>>=◌}
-use Rattle.exif_change.specs.Rewriting.{if_whole}
+use Rattle.exif_change.specs.Refusals.{Why, as_read, reading, unknown_format, ◌>>=◌}
+use Rattle.exif_change.specs.Rewriting.{if_whole, stream_change, stream_ended}
 use Rattle.exif_change.proofs.Scrubbed.{jpeg_answers, webp_answers}
 use Rattle.exif_copy.specs.Copied.{copied, placed_shaped}
 use Rattle.exif_copy.specs.Found.{data_found, exif_found, format_for}
-use Rattle.exif_copy.specs.Placed.{placed, png_made, target_refused}
+use Rattle.exif_copy.specs.Placed.{placed, placed_in_jxl, target_refused}
 use Rattle.exif_copy.specs.declared.copying.Shape.TheVariants.{Source}
+use Rattle.exif_change_laws.specs.JxlFound.{JxlIsFound}
 
 no_ok : {X : Type 0} (why : Why) (x : X) → ◌≡◌ {A = Result X Why} (Err why) (Ok x) → ⊥
 no_ok why x e = cc
@@ -81,29 +86,37 @@ whole_made : (made : Result (List ℕ) Refusal) (new : List ℕ) → as_read (if
 whole_made (Ok file) new e = ap (λ (f : List ℕ). let y : Result (List ℕ) Refusal = Ok f in y) (ap (λ r. (change_or (whole new) r).file) e)
 whole_made (Err r) new e = absurd (no_ok _ (whole new) e)
 
-not_refused : (o : Option Refusal) (out new : List ℕ) → (let r : Result (List ℕ) Refusal = elim o [ None ↦ Ok out | Some s ↦ Err s ] in r) ≡ Ok new
-    → (o ≡ None) × (out ≡ new)
-not_refused None out new e = (refl, (let h : ◌≡◌ {A = Result (List ℕ) Refusal} (Ok out) (Ok new) = e in cc))
-not_refused (Some s) out new e = absurd (let h : ◌≡◌ {A = Result (List ℕ) Refusal} (Err s) (Ok new) = e in cc)
-
 png_answers : (data' file new : List ℕ)
-    → ((remove : Remove) (put : Option (List ℕ)) (bytes : List ℕ) (n : ℕ) → IsAnswered remove put bytes n)
-    → as_read (if_whole (png_made data' file)) ≡ Ok (whole new) → length new < 2 ^ 64 - 1
+    → ((remove : Remove) (put : Option (List ℕ)) (file new : List ℕ) (n : ℕ) → PngIsAnswered remove put file new n)
+    → as_read (if_whole (png_rewritten Exif (Some data') file)) ≡ Ok (whole new) → length new < 2 ^ 64 - 1
     → png_data new ≡ Ok data'
-unfolding png_made png_data
+unfolding png_data
 png_answers data' file new law e short =
-    let rewriting = png_rewriting Exif (Some data') (take (2 ^ 64 - 1) file) in
-    let o = not_refused rewriting.refusal rewriting.out new (whole_made (png_made data' file) new e) in
-    let holds : Holds rewriting.out (2 ^ 64 - 1) data' =
-    law Exif (Some data') (take (2 ^ 64 - 1) file) (2 ^ 64 - 1) o.0 (subst (λ (xs : List ℕ). length xs < 2 ^ 64 - 1) (sym o.1) short) in
-    ap (λ (xs : List ℕ). container.data_of (png_answer (2 ^ 64 - 1) xs)) (sym o.1) ∙ ap container.data_of holds.1
+    ap container.data_of (law Exif (Some data') file new (2 ^ 64 - 1) (whole_made (png_rewritten Exif (Some data') file) new e) short).1
+
+-- ---- JPEG XL files
+
+jxl_answers : (data' file new : List ℕ) → ((remove : Remove) (payload bytes : List ℕ) (made : Written) → JxlIsFound remove payload bytes made)
+    → as_read (placed_in_jxl data' file) ≡ Ok (whole new) → data_of (jxl_answer new) ≡ Ok data'
+jxl_answers data' file new law e = by_made (jxl_rewritten Exif (Some data') file) refl e
+  where
+    file_is : (bytes : List ℕ) (ended : Ended) → (stream_change bytes ended).file ≡ bytes
+    file_is bytes Whole = refl
+    file_is bytes Cut = refl
+
+    by_made : (made : Result Written Refusal) → jxl_rewritten Exif (Some data') file ≡ made → as_read (stream_ended made) ≡ Ok (whole new) → data_of (jxl_answer new) ≡ Ok data'
+    by_made (Ok out) is h =
+        let same : out.bytes ≡ new = sym (file_is out.bytes out.ended) ∙ ap (λ r. (change_or (whole new) r).file) h in
+        ap (λ (l : List ℕ). data_of (jxl_answer l)) (sym same) ∙ law Exif data' file out is
+    by_made (Err refusal) is h = absurd (no_ok (reading refusal) (whole new) h)
 
 -- ---- files
 
 -- the laws of files that are written again
 pub record Laws : Type 0 where
   pub file : (remove : Remove) (put : Option (List ℕ)) (bytes : List ℕ) → IsFound remove put bytes
-  pub png : (remove : Remove) (put : Option (List ℕ)) (bytes : List ℕ) (n : ℕ) → IsAnswered remove put bytes n
+  pub png : (remove : Remove) (put : Option (List ℕ)) (file new : List ℕ) (n : ℕ) → PngIsAnswered remove put file new n
+  pub jxl : (remove : Remove) (payload file : List ℕ) (new : Written) → JxlIsFound remove payload file new
 
 by_format : Laws → (o : Option PictureFormat) (data' to new : List ℕ) → format_for to ≡ o
     → placed o data' to ≡ Ok (whole new) → length new < 2 ^ 64 - 1 → data_found o new ≡ Ok data'
@@ -115,7 +128,7 @@ by_format laws (Some WebP) data' to new is e short =
 by_format laws (Some Png) data' to new is e short = png_answers data' to new laws.png e short
 by_format laws (Some Tiff) data' to new is e short = absurd (no_ok target_refused (whole new) e)
 by_format laws (Some Heif) data' to new is e short = absurd (no_ok target_refused (whole new) e)
-by_format laws (Some JpegXl) data' to new is e short = absurd (no_ok target_refused (whole new) e)
+by_format laws (Some JpegXl) data' to new is e short = jxl_answers data' to new laws.jxl e
 by_format laws (Some Raf) data' to new is e short = absurd (no_ok target_refused (whole new) e)
 by_format laws (Some Orf) data' to new is e short = absurd (no_ok target_refused (whole new) e)
 by_format laws (Some Rw2) data' to new is e short = absurd (no_ok target_refused (whole new) e)

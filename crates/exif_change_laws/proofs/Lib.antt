@@ -2,6 +2,7 @@ mod CopiedData
 mod DatesThemselves
 mod FoundFiles
 mod JoinedFiles
+mod JxlTrees
 mod KeptOrientation
 mod LeftKnown
 mod MadeNumbers

@@ -1,6 +1,7 @@
 pub mod Assigned
 pub mod Copies
 pub mod Examples
+pub mod JxlFound
 pub mod Leaving
 pub mod Positions
 pub mod Scrubbed

@@ -1,4 +1,12 @@
 pub mod Backs
 pub mod Checks
+pub mod Entries
+pub mod Gathered
 pub mod Members
+pub mod Moving
+pub mod Planned
+pub mod Present
 pub mod Reads
+pub mod Stems
+pub mod Undone
+pub mod Words

@@ -1,18 +1,21 @@
 //! Files whose bytes have one of their new names already.
 
+ghost use Rattle.std.specs.Prelude.{◌≡◌, IfOk, IfSome, Some, None, is_some, string_bytes, true};
+ghost use Rattle.exif_files.specs.States.{Now};
+ghost use Rattle.exif_rename.specs.Planned.{own};
+ghost use Rattle.exif_rename.specs.Wishes.{wanted_of};
+ghost use Rattle.exif_commands.specs.Present.{AreMoves, AreMovesBy, IsHeld, IsThere, new_path_at};
+
+use crate::same::is_same;
 use exif_files::{FileSystem, HostFiles};
 use exif_rename::{Held, Move, Presence, Wish, are_there, candidate, is_begun};
 use std::alloc::{AllocError, Global};
 use std::collections::BTreeMap;
-use std::fs::{self, File, Metadata};
-use std::io::{self, Read};
+use std::fs::{self, Metadata};
 use std::os::unix::fs::MetadataExt;
 
 // How many numbers of a name are looked at, as many as a plan gives.
 const NUMBERS: u32 = 100_000;
-
-// How many bytes of two files are compared at a time.
-const BLOCK: u64 = 1 << 18;
 
 // A regular file: how long it is, and which.
 #[derive(Clone, Copy, PartialEq, Eq)]
@@ -85,13 +88,19 @@ pub struct There {
 }
 
 /// Where the files of one stem are already, if they are: all but the sidecars, which are the first
-/// of them, with the same bytes by one number of their new name. Lengths are compared first.
+/// of them, with the same bytes by one number of their new name. Lengths are compared first. Files
+/// that have their new names themselves are not.
 pub fn find_there(
     rt: &HostRuntime,
     numbered: &mut Numbered,
     wish: &Wish,
     sidecars: usize,
-) -> Result<Option<There>, AllocError> {
+) -> Result<Option<There>, AllocError>
+    ensures kept { is_some (own (wanted_of wish.now)) ≡ true
+        → IfOk result (λ found. found ≡ None) }
+    ensures there { IfOk result (λ found. IfSome found
+        (IsThere sidecars (wanted_of wish.now))) }
+{
     if wish.kept_number(rt.alloc())?.is_some() {
         return Ok(None);
     }
@@ -106,14 +115,13 @@ pub fn find_there(
         if found.map(|found| found.length) != Some(old.len()) {
             continue;
         }
-        let moves = wish.moves(rt.alloc(), number)?;
-        if moves.len() != wish.files.len() {
+        let Some(moves) = moves_of_all(rt.alloc(), wish, number)? else {
             // one of the files has its new path itself
             return Ok(None);
-        }
+        };
         let found = presences(rt, moves.as_slice(), sidecars)?;
         if are_there(found.as_slice()) {
-            return Ok(Some(there_by(rt.alloc(), moves, found, sidecars)?));
+            return there_by(rt.alloc(), moves, found, sidecars);
         }
     }
     Ok(None)
@@ -126,8 +134,12 @@ pub fn find_begun(
     numbered: &mut Numbered,
     wish: &Wish,
     sidecars: usize,
-) -> Result<Option<Vec<Move>>, AllocError> {
+) -> Result<Option<Vec<Move>>, AllocError>
+    ensures { IfOk result (λ found. IfSome found
+        (λ moves. AreMoves (wanted_of wish.now) moves.items)) }
+{
     let alloc = rt.alloc();
+    let mut files = HostFiles::new(rt);
     let Some(main) = wish.files.get(sidecars) else {
         return Ok(None);
     };
@@ -139,7 +151,7 @@ pub fn find_begun(
     let mut free = 0;
     for (number, found) in (0..NUMBERS).zip(there.iter()) {
         if *found == Some(old) {
-            if let Some(moves) = begun_by(rt, wish, number)? {
+            if let Some(moves) = begun_by(alloc, &mut files, wish, number)? {
                 return Ok(Some(moves));
             }
         }
@@ -147,21 +159,29 @@ pub fn find_begun(
     }
     // a sidecar may have its new path, and the picture none yet
     if sidecars > 0 {
-        return begun_by(rt, wish, free);
+        return begun_by(alloc, &mut files, wish, free);
     }
     Ok(None)
 }
 
 // The moves of the files of one stem by a number, if they were begun.
-fn begun_by(rt: &HostRuntime, wish: &Wish, number: u32) -> Result<Option<Vec<Move>>, AllocError> {
-    let moves = wish.moves(rt.alloc(), number)?;
-    if moves.len() != wish.files.len() {
+fn begun_by<F: FileSystem>(
+    alloc: Global,
+    files: &mut F,
+    wish: &Wish,
+    number: u32,
+) -> Result<Option<Vec<Move>>, AllocError>
+    ensures moves { IfOk result (λ found. IfSome found
+        (λ moves. AreMovesBy (wanted_of wish.now) number moves.items)) }
+    ensures same { F.states files.new ≡ F.states files.old }
+{
+    let Some(moves) = moves_of_all(alloc, wish, number)? else {
         // one of the files has its new path itself
         return Ok(None);
-    }
-    let mut held = Vec::new(rt.alloc());
+    };
+    let mut held = Vec::new(alloc);
     for wanted in moves.iter() {
-        held.push(held_by(rt, wanted))?;
+        held.push(held_by(files, wanted.from.as_str(), wanted.to.as_str()))?;
     }
     if is_begun(held.as_slice()) {
         return Ok(Some(moves));
@@ -169,10 +189,25 @@ fn begun_by(rt: &HostRuntime, wish: &Wish, number: u32) -> Result<Option<Vec<Mov
     Ok(None)
 }
 
+// The moves of all files of one stem by a number; none where one of the files has its new path
+// itself.
+fn moves_of_all(alloc: Global, wish: &Wish, number: u32) -> Result<Option<Vec<Move>>, AllocError>
+    ensures { IfOk result (λ found. IfSome found
+        (λ moves. AreMovesBy (wanted_of wish.now) number moves.items)) }
+{
+    let moves = wish.moves(alloc, number)?;
+    if moves.len() == wish.files.len() {
+        Ok(Some(moves))
+    } else {
+        Ok(None)
+    }
+}
+
 // What has the new path of a file; another file where that can't be told.
-fn held_by(rt: &HostRuntime, wanted: &Move) -> Held {
-    let mut files = HostFiles::new(rt);
-    let (from, to) = (wanted.from.as_str(), wanted.to.as_str());
+fn held_by<F: FileSystem>(files: &mut F, from: &str, to: &str) -> Held
+    ensures held { Now (F.states files.old) (IsHeld from.now to.now result) }
+    ensures same { F.states files.new ≡ F.states files.old }
+{
     if let Ok(true) = files.is_free(to) {
         return Held::Nothing;
     }
@@ -204,49 +239,29 @@ fn there_by(
     moves: Vec<Move>,
     found: Vec<Presence>,
     sidecars: usize,
-) -> Result<There, AllocError> {
-    let to = match moves.get(sidecars) {
-        Some(main) => main.to.clone()?,
-        None => String::new(alloc),
+) -> Result<Option<There>, AllocError>
+    ensures { IfOk result (λ there. IfSome there (λ there. Some (string_bytes there.to)
+        ≡ new_path_at sidecars moves.items)) }
+{
+    let Some(main) = moves.get(sidecars) else {
+        return Ok(None);
     };
+    let to = main.to.clone()?;
+    let differing = differing_of(alloc, moves, found)?;
+    Ok(Some(There { to, differing }))
+}
+
+// The files of which none of the same bytes has the new path.
+fn differing_of(
+    alloc: Global,
+    moves: Vec<Move>,
+    found: Vec<Presence>,
+) -> Result<Vec<Move>, AllocError> {
     let mut differing = Vec::new(alloc);
     for (wanted, presence) in moves.into_iter().zip(found.into_iter()) {
         if !presence.is_same {
             differing.push(wanted)?;
         }
     }
-    Ok(There { to, differing })
-}
-
-// Whether two files have the same bytes; not where one can't be read.
-fn is_same(rt: &HostRuntime, a: &str, b: &str) -> bool {
-    match (fs::symlink_metadata(rt, b), compare(rt, a, b)) {
-        (Ok(there), Ok(same)) => there.is_file() && same,
-        _ => false,
-    }
-}
-
-fn compare(rt: &HostRuntime, a: &str, b: &str) -> io::Result<bool> {
-    if fs::metadata(rt, a)?.len() != fs::metadata(rt, b)?.len() {
-        return Ok(false);
-    }
-    let mut a = File::open(rt, a)?;
-    let mut b = File::open(rt, b)?;
-    for _ in 0..u64::MAX {
-        let block = next_block(rt.alloc(), &mut a)?;
-        if next_block(rt.alloc(), &mut b)?.as_slice() != block.as_slice() {
-            return Ok(false);
-        }
-        if block.is_empty() {
-            break;
-        }
-    }
-    Ok(true)
-}
-
-// The next bytes of a file, none at its end.
-fn next_block(alloc: Global, file: &mut File) -> io::Result<Vec<u8>> {
-    let mut block = Vec::new(alloc);
-    file.take(BLOCK).read_to_end(&mut block)?;
-    Ok(block)
+    Ok(differing)
 }

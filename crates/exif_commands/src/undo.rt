@@ -1,13 +1,16 @@
 //! Renames that are taken back.
 
-use crate::backs::{Back, back_of};
+ghost use Rattle.std.specs.Prelude.{◌≡◌, IfOk, IsTrue};
+ghost use Rattle.exif_decisions.specs.declared.outcome.Outcome.TheVariants.{Done, Refused};
+ghost use Rattle.exif_commands.specs.Undone.{IsDryOutcome, source_of};
+
+use crate::backs::{Names, back_of};
 use crate::moves::{Folders, Moving, move_all};
+use crate::words::NotBackLine;
 use exif::Sink;
-use exif_decisions::{Escaped, Outcome};
-use exif_rename::{Move, Step, parse_line};
+use exif_decisions::Outcome;
+use exif_rename::{Move, Step, steps_of};
 use exif_session::{Session, Stop, read_file};
-use std::alloc::{AllocError, Global};
-use std::collections::BTreeMap;
 use std::fs;
 
 /// Gives the files of a run of `rename` their old names back, by the lines that it wrote, the last
@@ -18,7 +21,7 @@ pub fn undo_renames<W: Sink, E: Sink>(
     dry_run: bool,
 ) -> Result<(), Stop> {
     let alloc = session.rt.alloc();
-    let path = session.request.paths.first().copied().unwrap_or("-");
+    let path = source_of(session.request.paths.as_slice());
     let lines = match read_file(session.rt, path) {
         Ok(lines) => lines,
         Err(cause) => return session.refuse_beside(path, &cause),
@@ -35,7 +38,7 @@ pub fn undo_renames<W: Sink, E: Sink>(
     let mut undoing = Undoing {
         dry_run,
         folders: Folders::new(alloc),
-        names: BTreeMap::new(alloc),
+        names: Names::new(alloc),
     };
     for _ in 0..steps.len() {
         let Some(step) = steps.pop() else {
@@ -47,27 +50,13 @@ pub fn undo_renames<W: Sink, E: Sink>(
     undoing.folders.settle(session)
 }
 
-// What the lines of a run say, or the number of the first that is none.
-fn steps_of(alloc: Global, lines: &[u8]) -> Result<Result<Vec<Step>, u64>, AllocError> {
-    let mut steps = Vec::new(alloc);
-    let mut number = 0u64;
-    for line in lines.split(|byte| *byte == b'\n') {
-        number = number.saturating_add(1);
-        if line.is_empty() {
-            continue;
-        }
-        match step_of(alloc, line)? {
-            Some(step) => steps.push(step)?,
-            None => return Ok(Err(number)),
-        }
-    }
-    Ok(Ok(steps))
-}
-
-fn step_of(alloc: Global, line: &[u8]) -> Result<Option<Step>, AllocError> {
-    match std::str::from_utf8(line) {
-        Ok(line) => parse_line(alloc, line),
-        Err(_) => Ok(None),
+// The file that has the lines: the first that is named, or standard input.
+fn source_of<'a>(paths: &[&'a str]) -> &'a str
+    ensures { result.now ≡ source_of paths.now }
+{
+    match paths {
+        [path, ..] => path,
+        [] => "-",
     }
 }
 
@@ -76,37 +65,49 @@ fn step_of(alloc: Global, line: &[u8]) -> Result<Option<Step>, AllocError> {
 struct Undoing {
     dry_run: bool,
     folders: Folders,
-    // whether a file would be there by a name, where a dry run would have changed that
-    names: BTreeMap<String, bool>,
+    names: Names,
 }
 
 impl Undoing {
-    // Gives a file its old name back.
+    // Gives a file its old name back, but for a copy.
     fn take_back<W: Sink, E: Sink>(
         &mut self,
         session: &mut Session<'_, '_, W, E>,
         step: Step,
-    ) -> Result<Outcome, Stop> {
+    ) -> Result<Outcome, Stop>
+        ensures copied { IsTrue step.copied → IfOk result (λ outcome. outcome ≡ Refused) }
+        ensures dry { IsTrue self.old.dry_run → IfOk result IsDryOutcome }
+        ensures folders { IsTrue self.old.dry_run → self.new.folders ≡ self.old.folders }
+    {
         let (old, new) = (step.from, step.to);
-        let has_new = self.is_there(session.rt, new.as_str());
-        let has_old = self.is_there(session.rt, old.as_str());
-        match back_of(step.copied, has_new, has_old) {
-            Back::Move => {}
-            Back::Copy => {
-                let why = "a copy, which is not taken back; remove it by rm";
-                return session.refuse(new.as_str(), &why);
-            }
-            Back::Gone => return session.refuse(new.as_str(), &"it is not there any more"),
-            Back::Taken => {
-                let old = Escaped(old.as_str());
-                let why = format!(in session.rt.alloc(); "its old name is taken: {old}")?;
-                return session.refuse(new.as_str(), &why);
-            }
+        let has_new = self.has(session.rt, new.as_str());
+        let has_old = self.has(session.rt, old.as_str());
+        if let Err(why) = back_of(step.copied, has_new, has_old) {
+            let old = old.as_str();
+            return session.refuse(new.as_str(), &NotBackLine { why, old });
         }
         if self.dry_run {
-            self.names.insert(old.clone()?, true)?;
-            self.names.insert(new.clone()?, false)?;
+            self.names.take_back(&old, &new)?;
         }
+        self.move_back(session, old, new)
+    }
+
+    // Whether something has a name, or would have it in a run that is not dry.
+    fn has(&self, rt: &HostRuntime, name: &str) -> bool {
+        self.names.has(name, fs::symlink_metadata(rt, name).is_ok())
+    }
+
+    // Moves a file to its old name.
+    fn move_back<W: Sink, E: Sink>(
+        &mut self,
+        session: &mut Session<'_, '_, W, E>,
+        old: String,
+        new: String,
+    ) -> Result<Outcome, Stop>
+        ensures dry { IsTrue self.old.dry_run → IfOk result (λ outcome. outcome ≡ Done) }
+        ensures folders { IsTrue self.old.dry_run → self.new.folders ≡ self.old.folders }
+        ensures same { self.new.dry_run ≡ self.old.dry_run }
+    {
         let moving = Moving {
             copy: false,
             dry_run: self.dry_run,
@@ -114,12 +115,5 @@ impl Undoing {
         let path = new.clone()?;
         let back = [Move { from: new, to: old }];
         move_all(session, moving, &mut self.folders, path.as_str(), &back)
-    }
-
-    fn is_there(&self, rt: &HostRuntime, name: &str) -> bool {
-        match self.names.get(name) {
-            Some(is_there) => *is_there,
-            None => fs::symlink_metadata(rt, name).is_ok(),
-        }
     }
 }

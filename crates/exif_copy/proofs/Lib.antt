@@ -1,4 +1,3 @@
 pub mod FoundSteps
-pub mod PlacedSteps
 mod Blocks
 mod Chunks

@@ -25,7 +25,8 @@ container_for file = container_of (format_for file)
 
 -- nothing is put into other files
 abbrev pub no_container : Refusal
-no_container = not_supported (codes "metadata are copied into JPEG, WebP and PNG files only")
+no_container =
+    not_supported (codes "packets and profiles are copied into JPEG, WebP and PNG files only")
 
 -- ---- what a picture must have
 

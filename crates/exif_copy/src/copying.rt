@@ -75,12 +75,13 @@ fn copied_shaped(alloc: Global, exif: &Exif, to: &[u8], shape: Shape) -> Result<
 /// refused with [`NotFound`](exif::Error::NotFound), and data whose header can't be read as reading
 /// them is.
 ///
-/// `to` is a JPEG, WebP or PNG file; others are refused with `NotSupported`. All its Exif segments,
-/// its chunks `EXIF` or its chunks `eXIf` go, and the new one is where [`exif_rewrite::rewrite`]
-/// and [`rewrite_png`](exif_rewrite_png::rewrite_png) put it. Data that are too long for the file
-/// are refused with [`TooBig`](exif::Error::TooBig): a JPEG file takes 65,527 bytes. Of a JPEG file
-/// that is cut off what is there is kept, and [`Left::CutOff`](exif_change::Left::CutOff) is
-/// answered.
+/// `to` is a JPEG, WebP, PNG or JPEG XL file; others are refused with `NotSupported`, and so is a
+/// JPEG XL codestream without a container. All its Exif segments, its chunks `EXIF` or `eXIf` or
+/// its boxes `Exif`, compressed or not, go, and the new one is where [`exif_rewrite::rewrite`],
+/// [`rewrite_png`](exif_parts::rewrite_png) and [`rewrite_jxl`](exif_parts::rewrite_jxl) put
+/// it. Data that are too long for the file are refused with [`TooBig`](exif::Error::TooBig): a JPEG
+/// file takes 65,527 bytes. Of a JPEG or JPEG XL file that is cut off what is there is kept, and
+/// [`Left::CutOff`](exif_change::Left::CutOff) is answered.
 ///
 /// With [`Shape::Source`] the data are the same bytes. With [`Shape::Target`] they describe `to`:
 /// of the fields of the primary image Orientation is what the Exif data of `to` tell, or else 1,

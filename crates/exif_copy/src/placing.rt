@@ -1,21 +1,21 @@
 //! Exif data put into a picture in place of its own.
 
-ghost use Rattle.std.specs.Prelude.{◌≡◌, Result, Some};
+ghost use Rattle.std.specs.Prelude.{◌≡◌, IfOk, Result, Some};
 ghost use Rattle.exif_types.specs.Refusals.{Gives, Refusal as Refused};
 ghost use Rattle.exif_segments.specs.declared.remove.Remove.TheVariants as remove;
 ghost use Rattle.exif_change.specs.Changed.{Change, change_of, whole};
 ghost use Rattle.exif_change.specs.Refusals.{Answers, as_read, why_of};
-ghost use Rattle.exif_change.specs.Rewriting.{if_whole, rewritten_jpeg, rewritten_webp};
+ghost use Rattle.exif_change.specs.Rewriting.{if_whole, rewritten_jpeg, rewritten_webp, stream_change};
 ghost use Rattle.exif_copy.specs.Errors.{reading};
-ghost use Rattle.exif_copy.specs.Placed.{placed, png_made, target_refused};
+ghost use Rattle.exif_parts.specs.Png.{png_rewritten};
+ghost use Rattle.exif_copy.specs.Placed.{placed, placed_in_jxl, target_refused};
 
-use exif::{Counted, Error};
+use exif::Error;
 use exif_change::{Changed, Left, Refusal};
 use exif_formats::PictureFormat;
-use exif_parts::{Ended, rewrite_jpeg};
-use exif_rewrite::{Remove, rewrite_webp};
-use exif_rewrite_png::rewrite_png;
-use std::alloc::Global;
+use exif_parts::{Ended, Rewritten, rewrite_jpeg, rewrite_jxl, rewrite_png, rewrite_webp};
+use exif_rewrite::Remove;
+use std::alloc::{AllocError, Global};
 
 // A file of which nothing was left undone.
 fn whole(alloc: Global, file: Vec<u8>) -> Changed
@@ -27,47 +27,49 @@ fn whole(alloc: Global, file: Vec<u8>) -> Changed
     }
 }
 
+// A file that was written again as far as it goes.
+fn as_far(alloc: Global, new: Rewritten) -> Result<Changed, AllocError>
+    ensures { IfOk result (λ changed. change_of changed
+        ≡ stream_change new.bytes.items new.ended) }
+{
+    let Rewritten { bytes, ended } = new;
+    let mut changed = whole(alloc, bytes);
+    if let Ended::Cut = ended {
+        changed.left.push(Left::CutOff)?;
+    }
+    Ok(changed)
+}
+
 // A JPEG stream, as far as it goes, with these Exif data in place of its own.
 fn placed_in_jpeg(alloc: Global, exif: &[u8], file: &[u8]) -> Result<Changed, Error>
     ensures { Gives change_of result (rewritten_jpeg remove.Exif (Some exif.now) file.now) }
 {
     let new = rewrite_jpeg(alloc, file, Remove::Exif, Some(exif))?;
-    let mut changed = whole(alloc, new.bytes);
-    if let Ended::Cut = new.ended {
-        changed.left.push(Left::CutOff)?;
-    }
-    Ok(changed)
+    Ok(as_far(alloc, new)?)
+}
+
+// A JPEG XL file likewise.
+fn placed_in_jxl(alloc: Global, exif: &[u8], file: &[u8]) -> Result<Changed, Error>
+    ensures { Gives change_of result (placed_in_jxl exif.now file.now) }
+{
+    let new = rewrite_jxl(alloc, file, Remove::Exif, Some(exif))?;
+    Ok(as_far(alloc, new)?)
 }
 
 // A WebP file likewise.
 fn placed_in_webp(alloc: Global, exif: &[u8], file: &[u8]) -> Result<Changed, Error>
     ensures { Gives change_of result (rewritten_webp remove.Exif (Some exif.now) file.now) }
 {
-    let mut out = Counted::new(Vec::new(alloc));
-    rewrite_webp(
-        alloc,
-        &mut Counted::new(file),
-        &mut out,
-        Some(exif),
-        Remove::Exif,
-    )?;
-    Ok(whole(alloc, out.into_inner()))
-}
-
-// The bytes of a PNG file likewise.
-fn png_made(alloc: Global, exif: &[u8], file: &[u8]) -> Result<Vec<u8>, Error>
-    ensures { Gives (λ v. v.items) result (png_made exif.now file.now) }
-{
-    let mut out = Counted::new(Vec::new(alloc));
-    rewrite_png(&mut Counted::new(file), &mut out, Some(exif), Remove::Exif)?;
-    Ok(out.into_inner())
+    let new = rewrite_webp(alloc, file, Remove::Exif, Some(exif))?;
+    Ok(whole(alloc, new))
 }
 
 // A PNG file likewise.
 fn placed_in_png(alloc: Global, exif: &[u8], file: &[u8]) -> Result<Changed, Error>
-    ensures { Gives change_of result (if_whole (png_made exif.now file.now)) }
+    ensures { Gives change_of result
+        (if_whole (png_rewritten remove.Exif (Some exif.now) file.now)) }
 {
-    let new = png_made(alloc, exif, file)?;
+    let new = rewrite_png(alloc, file, Remove::Exif, Some(exif))?;
     Ok(whole(alloc, new))
 }
 
@@ -75,7 +77,7 @@ fn placed_in_png(alloc: Global, exif: &[u8], file: &[u8]) -> Result<Changed, Err
 fn target_refused() -> Refusal
     ensures { why_of result ≡ Some target_refused }
 {
-    let text = "Exif data are copied into JPEG, WebP and PNG files only";
+    let text = "Exif data are copied into JPEG, WebP, PNG and JPEG XL files only";
     Refusal::Reading(Error::NotSupported(text))
 }
 
@@ -105,9 +107,8 @@ pub(crate) fn placed(
         Some(PictureFormat::Jpeg) => as_read(placed_in_jpeg(alloc, exif, file)),
         Some(PictureFormat::WebP) => as_read(placed_in_webp(alloc, exif, file)),
         Some(PictureFormat::Png) => as_read(placed_in_png(alloc, exif, file)),
-        Some(PictureFormat::Tiff | PictureFormat::Heif | PictureFormat::JpegXl) => {
-            Err(target_refused())
-        }
+        Some(PictureFormat::JpegXl) => as_read(placed_in_jxl(alloc, exif, file)),
+        Some(PictureFormat::Tiff | PictureFormat::Heif) => Err(target_refused()),
         Some(PictureFormat::Raf | PictureFormat::Orf) => Err(target_refused()),
         Some(PictureFormat::Rw2 | PictureFormat::Cr3) => Err(target_refused()),
     }

@@ -44,7 +44,7 @@ fn container_for(file: &[u8]) -> Option<Container>
 fn no_container() -> Error
     ensures { refusal_of result ≡ Some no_container }
 {
-    Error::NotSupported("metadata are copied into JPEG, WebP and PNG files only")
+    Error::NotSupported("packets and profiles are copied into JPEG, WebP and PNG files only")
 }
 
 // A changed file with the XMP packet of a picture.

@@ -6,6 +6,8 @@ pub mod Found
 pub mod Outcomes
 pub mod Paths
 pub mod Rules
+pub mod Summaries
+pub mod SummaryExamples
 pub mod Tags
 pub mod Tallies
 pub mod Temporary

@@ -1,5 +1,5 @@
 -- How files are counted, and the status of a run.
-use Rattle.std.specs.Prelude.{◌≡◌, ℕ, ◌+◌, ◌-◌, ◌^◌, min, nat_lt, Bool, true, false, ◌||◌, Option, None, Some}
+use Rattle.std.specs.Prelude.{ℕ, ◌+◌, ◌-◌, ◌^◌, min, nat_lt, Bool, true, false, ◌||◌}
 use Rattle.exif_decisions.specs.declared.endings.Ending.{Ending}
 use Rattle.exif_decisions.specs.declared.endings.Ending.TheVariants.{Xmp, Aae, Thm}
 use Rattle.exif_decisions.specs.declared.formats.Unsupported.{Unsupported}
@@ -9,8 +9,12 @@ use Rattle.exif_files.specs.declared.outcome.Status.TheVariants.{Success, Incomp
 use Rattle.exif_files.specs.declared.outcome.Status.TheVariants as status
 use Rattle.exif_files.specs.Statuses.{worse}
 use Rattle.exif_decisions.specs.declared.counts.Counts.{Counts}
+use Rattle.exif_decisions.specs.declared.counts.FormatCounts.{FormatCounts}
+use Rattle.exif_decisions.specs.declared.counts.SidecarCounts.{SidecarCounts}
 use Rattle.exif_decisions.specs.declared.found.Found.{Found}
 use Rattle.exif_decisions.specs.declared.found.Found.TheVariants as found
+use Rattle.exif_decisions.specs.declared.found.NotRead.{NotRead}
+use Rattle.exif_decisions.specs.declared.found.NotRead.TheVariants as not_read
 use Rattle.exif_decisions.specs.declared.outcome.Outcome.{Outcome}
 use Rattle.exif_decisions.specs.declared.outcome.Outcome.TheVariants.{Done, Partial, Current, Unchanged, Refused}
 
@@ -53,17 +57,6 @@ counted_refused Current n = n
 counted_refused Unchanged n = n
 counted_refused Refused n = one_more n
 
--- what is not read, of files that were found in folders
-abbrev pub counted_not_read : Found → ℕ → ℕ
-counted_not_read found.Picture n = n
-counted_not_read (found.NotRead why) n = one_more n
-counted_not_read found.Other n = n
-
-abbrev pub counted_others : Found → ℕ → ℕ
-counted_others found.Picture n = n
-counted_others (found.NotRead why) n = n
-counted_others found.Other n = one_more n
-
 -- the status after files of which some were refused, or were not wholly done
 abbrev pub status_of_files : Bool → Bool → Status
 status_of_files true part = status.Refused
@@ -78,32 +71,95 @@ status_in counts =
     (nat_lt 0 counts.partial || nat_lt 0 counts.unchanged || nat_lt 0 counts.not_read))
     counts.beside
 
--- the same files were counted
-pub record AreSameFiles (old new : Counts) : Type 0 where
-  pub done : new.done ≡ old.done
-  pub partial : new.partial ≡ old.partial
-  pub current : new.current ≡ old.current
-  pub unchanged : new.unchanged ≡ old.unchanged
-  pub refused : new.refused ≡ old.refused
-  pub not_read : new.not_read ≡ old.not_read
+-- ---- what is counted of a file
 
--- ---- kinds of files that are not read
+-- no file of a format that is not read
+abbrev pub no_formats : FormatCounts
+no_formats = record {
+  gif = 0;
+  bmp = 0;
+  psd = 0;
+  raw = 0;
+  video = 0;
+  jpeg2000 = 0;
+  big_tiff = 0;
+  svg = 0;
+  pdf = 0;
+}
 
--- the place of a format in a summary
-abbrev pub format_place : Unsupported → ℕ
-format_place Gif = 0
-format_place Bmp = 1
-format_place Psd = 2
-format_place Raw = 3
-format_place Video = 4
-format_place Jpeg2000 = 5
-format_place BigTiff = 6
-format_place Svg = 7
-format_place Pdf = 8
+abbrev pub no_sidecars : SidecarCounts
+no_sidecars = record { xmp = 0; aae = 0; thm = 0 }
 
--- that of a sidecar, by the ending of its name
-abbrev pub sidecar_place : Ending → Option ℕ
-sidecar_place Xmp = Some 0
-sidecar_place Aae = Some 1
-sidecar_place Thm = Some 2
-sidecar_place ending = None
+-- no file
+abbrev pub no_counts : Counts
+no_counts = record {
+  done = 0;
+  partial = 0;
+  current = 0;
+  unchanged = 0;
+  refused = 0;
+  not_read = 0;
+  others = 0;
+  links = 0;
+  own = 0;
+  beside = Success;
+  formats = no_formats;
+  damaged = 0;
+  sidecars = no_sidecars;
+}
+
+-- one more file of an outcome
+abbrev pub counted : Outcome → Counts → Counts
+counted outcome counts = record counts {
+  done = counted_done outcome counts.done;
+  partial = counted_partial outcome counts.partial;
+  current = counted_current outcome counts.current;
+  unchanged = counted_unchanged outcome counts.unchanged;
+  refused = counted_refused outcome counts.refused;
+}
+
+-- one more file of a format that is not read
+abbrev pub counted_format : Unsupported → FormatCounts → FormatCounts
+counted_format Gif counts = record counts { gif = one_more counts.gif }
+counted_format Bmp counts = record counts { bmp = one_more counts.bmp }
+counted_format Psd counts = record counts { psd = one_more counts.psd }
+counted_format Raw counts = record counts { raw = one_more counts.raw }
+counted_format Video counts = record counts { video = one_more counts.video }
+counted_format Jpeg2000 counts = record counts { jpeg2000 = one_more counts.jpeg2000 }
+counted_format BigTiff counts = record counts { big_tiff = one_more counts.big_tiff }
+counted_format Svg counts = record counts { svg = one_more counts.svg }
+counted_format Pdf counts = record counts { pdf = one_more counts.pdf }
+
+-- one more sidecar, by the ending of its name
+abbrev pub counted_sidecar : Ending → SidecarCounts → SidecarCounts
+counted_sidecar Xmp counts = record counts { xmp = one_more counts.xmp }
+counted_sidecar Aae counts = record counts { aae = one_more counts.aae }
+counted_sidecar Thm counts = record counts { thm = one_more counts.thm }
+counted_sidecar other counts = counts
+
+-- one more file that was not read, by its kind
+abbrev pub counted_kind : NotRead → Counts → Counts
+counted_kind (not_read.Format format) counts =
+    record counts { formats = counted_format format counts.formats }
+counted_kind (not_read.Damaged ending) counts =
+    record counts { damaged = one_more counts.damaged }
+counted_kind (not_read.Empty ending) counts =
+    record counts { damaged = one_more counts.damaged }
+counted_kind (not_read.Sidecar ending) counts =
+    record counts { sidecars = counted_sidecar ending counts.sidecars }
+
+-- one more file that was found in a folder, and is skipped unless it is a picture
+abbrev pub skipped : Found → Counts → Counts
+skipped found.Picture counts = counts
+skipped (found.NotRead why) counts =
+    counted_kind why (record counts { not_read = one_more counts.not_read })
+skipped found.Other counts = record counts { others = one_more counts.others }
+
+-- a sum, up to 2^64 - 1
+abbrev pub plus : ℕ → ℕ → ℕ
+plus a b = min (a + b) (2 ^ 64 - 1)
+
+-- how many files that were found in folders were skipped
+abbrev pub skipped_count : Counts → ℕ
+skipped_count counts =
+    plus (plus (plus counts.not_read counts.others) counts.links) counts.own

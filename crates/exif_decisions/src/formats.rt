@@ -18,19 +18,6 @@ pub enum Unsupported {
     Pdf,
 }
 
-/// All of them, in the order in which a summary names them.
-pub const ALL: [Unsupported; 9] = [
-    Unsupported::Gif,
-    Unsupported::Bmp,
-    Unsupported::Psd,
-    Unsupported::Raw,
-    Unsupported::Video,
-    Unsupported::Jpeg2000,
-    Unsupported::BigTiff,
-    Unsupported::Svg,
-    Unsupported::Pdf,
-];
-
 impl Unsupported {
     /// Its name.
     pub fn name(self) -> &'static str

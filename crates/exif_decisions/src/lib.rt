@@ -12,11 +12,12 @@ mod mistake;
 mod outcome;
 mod paths;
 mod rules;
+mod summary;
 mod tags;
 mod temporary;
 mod timing;
 
-pub use counts::{Counts, Summary};
+pub use counts::{Counts, FormatCounts, SidecarCounts};
 pub use endings::{Ending, ending_of};
 pub use escaped::{Escaped, is_unreadable, readable};
 pub use faults::SkippedFaults;
@@ -32,6 +33,7 @@ pub use rules::{
     Action, Destination, Existing, Kind, Look, NoDestination, action_of, destination_of,
     existing_of, is_assignment, is_own_name, is_temporary_name, kind_of, look_of,
 };
+pub use summary::Summary;
 pub use tags::{canonical_word, nearest, write_tags};
 pub use temporary::{Fate, fate_of};
 pub use timing::is_line_due;

@@ -1,27 +1,32 @@
 -- The `moov` of a CR3 file is that of its tree, and all bytes have a tree.
-use Rattle.std.proofs.Common.{◌≡◌, ℕ, ◌+◌, ◌-◌, ◌^◌, ◌<◌, ◌≤◌, Bool, true, false, cond, ◌&&◌, eqb, ltb, List, [], ◌++◌, length, take, drop, codes, Err, ap, sym, ◌∙◌, refl, subst, arith, append_assoc, length-append}
+use Rattle.std.proofs.Common.{◌≡◌, ℕ, ◌+◌, ◌-◌, ◌^◌, ◌<◌, ◌≤◌, Bool, true, false, cond, ◌&&◌, eqb, ltb, List, [], ◌++◌, length, take, drop, codes, None, Result, Ok, Err, ap, sym, ◌∙◌, refl, subst, arith, append_assoc, length-append}
 use Rattle.std.specs.Str.{bytes_eq}
 use Rattle.std.proofs.lemmas.Bool.{and_parts, eqb-false, eqb-true, le-ltb, lt-ltb, ltb-false, ltb-true}
 use Rattle.std.proofs.lemmas.List.{drop_at, take-append-drop, length-take-le, drop-drop}
 use Rattle.std.proofs.lemmas.Slice.Eq.{bytes_eq-Decides}
 use Rattle.byteorder.specs.Endian.{big_number}
 use Rattle.byteorder.specs.Numbers.{big_from-append}
-use Rattle.exif_formats.specs.Cr3.{broken_cr3, not_cr3, begins_cr3, first_held, held_by, movie_behind, movie_in, movie_of, required}
+use Rattle.exif_types.specs.Refusals.{Refusal, ◌>>=◌}
+use Rattle.exif_formats.specs.Cr3.{broken_cr3, not_cr3, begins_cr3, behind_brand, boxes_of, first_held, held_by, held_in, required}
 use Rattle.exif_formats.specs.Cr3Grammar.{print_boxes, Cr3File, boxes, to_end, small, cut, short, foreign, print_brand, HasNoBrand, FileIsAnswered, IsAFile}
-use Rattle.exif_formats.specs.Cr3Steps.{movie_within}
 use Rattle.exif_formats.proofs.Cr3Boxes.{within_enough}
 use Rattle.exif_formats.proofs.Cr3Brand.{begins-append, behind-small, cr3-twelve, sized}
 use Rattle.exif_formats.proofs.LawsBoxes.{are_the_boxes, boxes_are_answered}
 
 -- ---- the limit of boxes
 
-enough : (n : ℕ) (bytes : List ℕ) → length bytes ≤ n → required (movie_within n bytes) ≡ required (first_held (codes "moov") [] bytes)
-enough n bytes h = ap required (within_enough (held_by (codes "moov") []) n (length bytes) bytes h (omega arith))
-
 -- fewer than 2^64 bytes have no more boxes than are read
-movie-of-boxes : (bytes : List ℕ) → length bytes < 2 ^ 64 → movie_in bytes ≡ required (first_held (codes "moov") [] bytes)
-unfolding movie_in
-movie-of-boxes bytes h = enough (2 ^ 64 - 1) bytes (omega arith)
+held-of-boxes : (bytes : List ℕ) → length bytes < 2 ^ 64 → held_in (codes "moov") [] bytes ≡ first_held (codes "moov") [] bytes
+unfolding held_in
+held-of-boxes bytes h = within_enough (held_by (codes "moov") []) (2 ^ 64 - 1) (length bytes) bytes (omega arith) (omega arith)
+
+-- no bytes have no box
+held-of-none : held_in (codes "moov") [] [] ≡ Ok None
+held-of-none = held-of-boxes [] (omega arith)
+
+-- the `moov` among the boxes of a file
+abbrev movie_among : Result (List ℕ) Refusal → Result (List ℕ) Refusal
+movie_among found = required (found >>= held_in (codes "moov") [])
 
 -- ---- the first twelve bytes
 
@@ -39,11 +44,11 @@ brand-begins size h =
     ((bytes_eq-Decides (take 4 (drop 4 (print_brand size))) (codes "ftyp")).1 (ap (take 4) type))
     ((bytes_eq-Decides (take 4 (drop 8 (print_brand size))) (codes "crx ")).1 (ap (take 4) behind))
 
-branded : (size rest : List ℕ) → length size ≡ 4 → movie_of (print_brand size ++ rest) ≡ movie_behind (big_number 4 size) (print_brand size ++ rest)
+branded : (size rest : List ℕ) → length size ≡ 4 → boxes_of (print_brand size ++ rest) ≡ behind_brand (big_number 4 size) (print_brand size ++ rest)
 branded size rest h =
     cr3-twelve (print_brand size) rest (brand-len size h)
-    ∙ ap (λ t. cond t (movie_behind (big_number 4 (print_brand size)) (print_brand size ++ rest)) (Err not_cr3)) (brand-begins size h)
-    ∙ ap (λ n. movie_behind n (print_brand size ++ rest)) (big_from-append 4 size (codes "ftyp" ++ codes "crx ") (omega arith))
+    ∙ ap (λ t. cond t (behind_brand (big_number 4 (print_brand size)) (print_brand size ++ rest)) (Err not_cr3)) (brand-begins size h)
+    ∙ ap (λ n. behind_brand n (print_brand size ++ rest)) (big_from-append 4 size (codes "ftyp" ++ codes "crx ") (omega arith))
 
 -- ---- a file is answered as its tree says
 
@@ -86,21 +91,25 @@ cr3_file_is_answered (boxes size brands bs) is few =
     let at = is.1 in
     let total : length (print_brand size ++ (brands ++ print_boxes bs)) ≡ length (print_brand size) + (length brands + length (print_boxes bs)) =
     length-append (print_brand size) (brands ++ print_boxes bs) ∙ ap (λ t. length (print_brand size) + t) (length-append brands (print_boxes bs)) in
-    branded size (brands ++ print_boxes bs) is.0
+    ap movie_among
+    (branded size (brands ++ print_boxes bs) is.0
     ∙ sized n text false (omega arith) (le-ltb (length (print_brand size ++ (brands ++ print_boxes bs))) (big_number 4 size) (omega arith))
-    ∙ ap movie_in (ap (drop n) (sym (append_assoc (print_brand size) brands (print_boxes bs))) ∙ drop_at (print_brand size ++ brands) (print_boxes bs) n (sym is.1))
-    ∙ movie-of-boxes (print_boxes bs) (omega arith)
-    ∙ ap required (boxes_are_answered (codes "moov") [] bs is.2)
-cr3_file_is_answered (to_end size rest) is few = branded size rest is.0 ∙ ap (λ n. movie_behind n (print_brand size ++ rest)) is.1
-cr3_file_is_answered (small size rest) is few = branded size rest is.0 ∙ behind-small (big_number 4 size) (print_brand size ++ rest) is.1 is.2
+    ∙ ap (λ t. Ok t) (ap (drop n) (sym (append_assoc (print_brand size) brands (print_boxes bs))) ∙ drop_at (print_brand size ++ brands) (print_boxes bs) n (sym is.1)))
+    ∙ ap required (held-of-boxes (print_boxes bs) (omega arith) ∙ boxes_are_answered (codes "moov") [] bs is.2)
+cr3_file_is_answered (to_end size rest) is few =
+    ap movie_among (branded size rest is.0 ∙ ap (λ n. behind_brand n (print_brand size ++ rest)) is.1) ∙ ap required held-of-none
+cr3_file_is_answered (small size rest) is few =
+    ap movie_among (branded size rest is.0 ∙ behind-small (big_number 4 size) (print_brand size ++ rest) is.1 is.2)
 cr3_file_is_answered (cut size rest) is few =
-    branded size rest is.0
-    ∙ sized (big_number 4 size) (print_brand size ++ rest) true is.1 (lt-ltb (length (print_brand size ++ rest)) (big_number 4 size) is.2)
+    ap movie_among
+    (branded size rest is.0
+    ∙ sized (big_number 4 size) (print_brand size ++ rest) true is.1 (lt-ltb (length (print_brand size ++ rest)) (big_number 4 size) is.2))
 cr3_file_is_answered (short bytes) is few =
-    ap (λ t. cond t (Err broken_cr3) (cond (begins_cr3 bytes) (movie_behind (big_number 4 bytes) bytes) (Err not_cr3))) (lt-ltb (length bytes) 12 is)
+    ap movie_among (ap (λ t. cond t (Err broken_cr3) (cond (begins_cr3 bytes) (behind_brand (big_number 4 bytes) bytes) (Err not_cr3))) (lt-ltb (length bytes) 12 is))
 cr3_file_is_answered (foreign bytes) is few =
-    ap (λ t. cond t (Err broken_cr3) (cond (begins_cr3 bytes) (movie_behind (big_number 4 bytes) bytes) (Err not_cr3))) (le-ltb (length bytes) 12 is.0)
-    ∙ ap (λ t. cond t (movie_behind (big_number 4 bytes) bytes) (Err not_cr3)) (no-brand bytes is.0 is.1)
+    ap movie_among
+    (ap (λ t. cond t (Err broken_cr3) (cond (begins_cr3 bytes) (behind_brand (big_number 4 bytes) bytes) (Err not_cr3))) (le-ltb (length bytes) 12 is.0)
+    ∙ ap (λ t. cond t (behind_brand (big_number 4 bytes) bytes) (Err not_cr3)) (no-brand bytes is.0 is.1))
 
 -- ---- all bytes have a tree
 

@@ -8,9 +8,10 @@ pub mod ReadSteps
 pub mod TreesJxl
 pub mod Cr3Boxes
 pub mod Cr3Brand
+pub mod Cr3Found
 pub mod Cr3Headers
 pub mod Cr3Loop
-pub mod Cr3Movie
+pub mod Cr3Walk
 pub mod LawsBoxes
 pub mod LawsCr3
 pub mod LawsRaf

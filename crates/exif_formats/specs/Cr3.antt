@@ -2,7 +2,7 @@
 -- no public standard of what Canon keeps in them: `moov` holds a `uuid` of Canon's, and in that
 -- `CMT1`, `CMT2` and `CMT4` are TIFF data each.
 use Rattle.std.specs.Prelude.{ℕ, zero, suc, ◌-◌, ◌^◌, ◌==◌, ◌&&◌, ◌||◌, Bool, nat_lt, if◌then◌else◌, List, [], ◌∷◌, length, take, drop, codes, Option, Some, None, Result, Ok, Err}
-use Rattle.std.specs.Option.{option_and_then}
+use Rattle.std.specs.Option.{option_and_then, option_map}
 use Rattle.std.specs.Str.{bytes_eq}
 use Rattle.byteorder.specs.Endian.{big_number}
 use Rattle.exif_types.specs.Refusals.{Refusal, invalid_format, not_found, Front, ◌>>=◌, or_refuse}
@@ -84,22 +84,34 @@ begins_cr3 bytes =
     bytes_eq (take 4 (drop 4 bytes)) (codes "ftyp")
     && bytes_eq (take 4 (drop 8 bytes)) (codes "crx ")
 
--- the payload of the first `moov` among the first 2^64 - 1 boxes
-unfoldable pub movie_in : List ℕ → Result (List ℕ) Refusal
-movie_in bytes = required (first_within (held_by (codes "moov") []) (2 ^ 64 - 1) bytes)
+-- what follows a first box of this size, which has its brand within; 0 runs to the end
+abbrev pub behind_brand : ℕ → List ℕ → Result (List ℕ) Refusal
+behind_brand size file =
+    if size == 0 then Ok [] else
+    if nat_lt size 12 || nat_lt (length file) size then Err broken_cr3 else Ok (drop size file)
 
--- the same behind a first box of this size, which has its brand within; 0 runs to the end
-abbrev pub movie_behind : ℕ → List ℕ → Result (List ℕ) Refusal
-movie_behind size file =
-    if size == 0 then Err no_exif_in_cr3 else
-    if nat_lt size 12 || nat_lt (length file) size then Err broken_cr3 else
-    movie_in (drop size file)
+-- the boxes behind the first one of a file
+abbrev pub boxes_of : List ℕ → Result (List ℕ) Refusal
+boxes_of file =
+    if nat_lt (length file) 12 then Err broken_cr3 else
+    if begins_cr3 file then behind_brand (big_number 4 file) file else Err not_cr3
+
+-- what the first box of a type holds among the first 2^64 - 1 boxes
+unfoldable pub held_in : List ℕ → List ℕ → List ℕ → Result (Option (List ℕ)) Refusal
+held_in name usertype bytes = first_within (held_by name usertype) (2 ^ 64 - 1) bytes
+
+-- the same of a file
+abbrev pub held_of : List ℕ → List ℕ → List ℕ → Result (Option (List ℕ)) Refusal
+held_of name usertype file = boxes_of file >>= held_in name usertype
+
+-- the first bytes of that, at most so many
+abbrev pub held_front : List ℕ → List ℕ → ℕ → List ℕ → Result (Option (List ℕ)) Refusal
+held_front name usertype most file =
+    held_of name usertype file >>= λ found. Ok (option_map (take most) found)
 
 -- the payload of the first `moov` of a file
 abbrev pub movie_of : List ℕ → Result (List ℕ) Refusal
-movie_of file =
-    if nat_lt (length file) 12 then Err broken_cr3 else
-    if begins_cr3 file then movie_behind (big_number 4 file) file else Err not_cr3
+movie_of file = required (held_of (codes "moov") [] file)
 
 -- Canon's type of a `uuid`: 85c0b687-820f-11e0-8111-f4ce462b6a48
 abbrev pub canon_type : List ℕ

@@ -3,7 +3,7 @@ use Rattle.std.specs.Prelude.{◌≡◌, refl, ℕ, List, [], ◌∷◌, ◌++�
 use Rattle.exif_isobmff.specs.Boxes.{box_at, header_at}
 use Rattle.exif_segments.specs.Answer.{found, refused}
 use Rattle.exif_segments.specs.Jpeg.{broken_jpeg, no_exif_in_jpeg}
-use Rattle.exif_formats.specs.Cr3.{broken_cr3, canon_thumbnail, canon_type, cr3_answer, cr3_thumbnail, movie_in, no_exif_in_cr3, not_cr3}
+use Rattle.exif_formats.specs.Cr3.{broken_cr3, canon_thumbnail, canon_type, cr3_answer, cr3_thumbnail, held_front, held_in, no_exif_in_cr3, not_cr3}
 use Rattle.exif_formats.specs.Raf.{broken_raf, invalid_jpeg_offset, not_raf, raf_answer}
 
 -- ---- RAF
@@ -72,14 +72,14 @@ uuid len type boxes = 0 ∷ 0 ∷ 0 ∷ len ∷ codes "uuid" ++ (type ++ boxes)
 cr3_found : cr3_answer (brand ++ (0 ∷ 0 ∷ 0 ∷ 9 ∷ codes "free" ++ (7 ∷ 0 ∷ 0 ∷ 0 ∷ 75 ∷ codes "moov"
     ++ (0 ∷ 0 ∷ 0 ∷ 8 ∷ codes "mvhd" ++ (uuid 59 canon_type directories ++ 3 ∷ [])))))
     ≡ Ok (record { primary = 73 ∷ 42 ∷ []; exif = Some (5 ∷ []); gps = Some [] })
-unfolding movie_in box_at header_at
+unfolding held_in box_at header_at
 cr3_found = refl
 
 -- `moov` with a size of 8 bytes, and `uuid` that runs to its end, with `CMT1` alone
 cr3_large : cr3_answer (brand ++ (0 ∷ 0 ∷ 0 ∷ 1 ∷ codes "moov" ++ (0 ∷ 0 ∷ 0 ∷ 0 ∷ 0 ∷ 0 ∷ 0 ∷ 50
     ∷ uuid 0 canon_type (0 ∷ 0 ∷ 0 ∷ 10 ∷ codes "CMT1" ++ 73 ∷ 42 ∷ []) ++ 3 ∷ [])))
     ≡ Ok (record { primary = 73 ∷ 42 ∷ []; exif = None; gps = None })
-unfolding movie_in box_at header_at
+unfolding held_in box_at header_at
 cr3_large = refl
 
 -- `moov` that runs to the end of the file; a `uuid` of another type, and one that is too short for
@@ -88,39 +88,39 @@ cr3_to_end : cr3_answer (brand ++ (0 ∷ 0 ∷ 0 ∷ 0 ∷ codes "moov"
     ++ (uuid 24 (codes "another type 123") [] ++ (uuid 9 (1 ∷ []) []
     ++ uuid 59 canon_type directories))))
     ≡ Ok (record { primary = 73 ∷ 42 ∷ []; exif = Some (5 ∷ []); gps = Some [] })
-unfolding movie_in box_at header_at
+unfolding held_in box_at header_at
 cr3_to_end = refl
 
 -- Canon's `uuid` is longer than `moov`
 cr3_overflowing : cr3_answer (brand ++ (0 ∷ 0 ∷ 0 ∷ 66 ∷ codes "moov"
     ++ uuid 59 canon_type directories)) ≡ Err broken_cr3
-unfolding movie_in box_at header_at
+unfolding held_in box_at header_at
 cr3_overflowing = refl
 
 -- a size under that of the header
 cr3_small : cr3_answer (brand ++ (0 ∷ 0 ∷ 0 ∷ 7 ∷ codes "moov")) ≡ Err broken_cr3
-unfolding movie_in box_at header_at
+unfolding held_in box_at header_at
 cr3_small = refl
 
 -- a box before `moov` is cut off
 cr3_cut : cr3_answer (brand ++ (0 ∷ 0 ∷ 0 ∷ 10 ∷ codes "free" ++ 7 ∷ [])) ≡ Err broken_cr3
-unfolding movie_in box_at header_at
+unfolding held_in box_at header_at
 cr3_cut = refl
 
 -- no `moov`
 cr3_without : cr3_answer (brand ++ (0 ∷ 0 ∷ 0 ∷ 0 ∷ codes "mdat" ++ 7 ∷ [])) ≡ Err no_exif_in_cr3
-unfolding movie_in box_at header_at
+unfolding held_in box_at header_at
 cr3_without = refl
 
 -- `CMT2`, and no `CMT1`
 cr3_without_primary : cr3_answer (brand ++ (0 ∷ 0 ∷ 0 ∷ 41 ∷ codes "moov"
     ++ uuid 33 canon_type (0 ∷ 0 ∷ 0 ∷ 9 ∷ codes "CMT2" ++ 5 ∷ []))) ≡ Err no_exif_in_cr3
-unfolding movie_in box_at header_at
+unfolding held_in box_at header_at
 cr3_without_primary = refl
 
 -- a first box with its brand behind its end
 cr3_brandless : cr3_answer (0 ∷ 0 ∷ 0 ∷ 8 ∷ codes "ftypcrx " ++ 0 ∷ 0 ∷ 0 ∷ 1 ∷ []) ≡ Err broken_cr3
-unfolding movie_in
+unfolding held_in
 cr3_brandless = refl
 
 -- another brand
@@ -137,7 +137,7 @@ thumbnail =
 
 cr3_with_thumbnail : cr3_thumbnail (brand ++ (0 ∷ 0 ∷ 0 ∷ 60 ∷ codes "moov"
     ++ uuid 52 canon_type thumbnail)) ≡ Ok (Some (0xff ∷ 0xd8 ∷ []))
-unfolding movie_in box_at header_at
+unfolding held_in box_at header_at
 cr3_with_thumbnail = refl
 
 no_thumbnail : canon_thumbnail directories ≡ Ok None
@@ -149,3 +149,25 @@ cut_thumbnail : canon_thumbnail (0 ∷ 0 ∷ 0 ∷ 26 ∷ codes "THMB" ++ (0 ∷
     ∷ 0 ∷ 0 ∷ 0 ∷ 3 ∷ 0 ∷ 1 ∷ 0 ∷ 0 ∷ 0xff ∷ 0xd8 ∷ [])) ≡ Ok None
 unfolding box_at header_at
 cut_thumbnail = refl
+
+-- ---- boxes beside `moov`
+
+-- a `uuid` of another type, one that is too short for a type, and another box are passed; two bytes
+-- are taken
+box_of_a_type : held_front (codes "uuid") (codes "the sought type!") 2 (brand
+    ++ (uuid 24 (codes "another type 123") [] ++ (uuid 9 (1 ∷ []) [] ++ (0 ∷ 0 ∷ 0 ∷ 8
+    ∷ codes "free" ++ (uuid 27 (codes "the sought type!") (7 ∷ 8 ∷ 9 ∷ []) ++ 3 ∷ [])))))
+    ≡ Ok (Some (7 ∷ 8 ∷ []))
+unfolding held_in box_at header_at
+box_of_a_type = refl
+
+no_box_of_a_type : held_front (codes "uuid") (codes "the sought type!") 2 (brand
+    ++ uuid 24 (codes "another type 123") []) ≡ Ok None
+unfolding held_in box_at header_at
+no_box_of_a_type = refl
+
+-- it is cut off
+cut_box_of_a_type : held_front (codes "uuid") (codes "the sought type!") 2 (brand
+    ++ uuid 28 (codes "the sought type!") (7 ∷ 8 ∷ 9 ∷ [])) ≡ Err broken_cr3
+unfolding held_in box_at header_at
+cut_box_of_a_type = refl

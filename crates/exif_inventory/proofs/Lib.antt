@@ -1,2 +1,3 @@
+pub mod CrcSteps
 pub mod ScanSteps
 pub mod WalkSteps

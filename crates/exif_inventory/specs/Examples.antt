@@ -1,5 +1,6 @@
 -- Worked examples: the parts of files, by bytes written by hand.
 use Rattle.std.specs.Prelude.{◌≡◌, refl, ℕ, List, [], ◌∷◌, ◌++◌, codes, Some, None}
+use Rattle.exif_inventory.specs.Crc.{crc32}
 use Rattle.exif_inventory.specs.JpegPieces.{between_piece, stream_piece}
 use Rattle.exif_inventory.specs.JxlPieces.{box_piece}
 use Rattle.exif_inventory.specs.PngPieces.{png_piece}
@@ -159,6 +160,13 @@ parts_of_frame_cut : inventory frame_cut
     ≡ Some (part kind.Picture 0 0 36 0 36 ∷ part kind.Broken 0 36 10 36 10 ∷ [])
 unfolding walked chunk_piece frame_piece
 parts_of_frame_cut = refl
+
+-- the CRC of `IEND`, as each PNG file has it, and the check value of this CRC in catalogues
+crc_of_end : crc32 (codes "IEND") ≡ 0xAE426082
+crc_of_end = refl
+
+crc_of_digits : crc32 (codes "123456789") ≡ 0xCBF43926
+crc_of_digits = refl
 
 -- the signature of a PNG file
 abbrev png_signature : List ℕ

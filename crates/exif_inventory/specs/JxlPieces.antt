@@ -1,5 +1,5 @@
 -- The pieces of a JPEG XL file in its container (ISO/IEC 18181-2, clause 9).
-use Rattle.std.specs.Prelude.{ℕ, ◌+◌, List, [], ◌∷◌, length, take, drop, codes, nat_lt, Bool, ◌||◌, ◌==◌, if◌then◌else◌}
+use Rattle.std.specs.Prelude.{ℕ, ◌+◌, List, [], ◌∷◌, length, take, drop, codes, nat_lt, Bool, true, false, ◌||◌, ◌==◌, if◌then◌else◌}
 use Rattle.std.specs.Str.{bytes_eq}
 use Rattle.std.specs.Int.{from_be_bytes, w32, w64}
 use Rattle.exif_inventory.specs.declared.kind.Kind.{Kind}
@@ -98,3 +98,21 @@ unfoldable pub box_piece : List ℕ → Piece
 box_piece bytes =
     if nat_lt (length bytes) 8 then rest_of_jxl kind.Broken bytes else
     given_box bytes (from_be_bytes w32 (take 4 bytes))
+
+-- whether a box of this size, whose header has so many bytes, is not whole
+abbrev pub is_cut_size : List ℕ → ℕ → ℕ → Bool
+is_cut_size bytes header size = nat_lt size header || nat_lt (length bytes) size
+
+-- the same of one whose size has eight bytes
+abbrev pub is_cut_large : List ℕ → Bool
+is_cut_large bytes =
+    if nat_lt (length bytes) 16 then true else
+    is_cut_size bytes 16 (from_be_bytes w64 (take 8 (drop 8 bytes)))
+
+-- whether the box at the front of bytes is cut off
+abbrev pub is_cut_box : List ℕ → Bool
+is_cut_box bytes =
+    if nat_lt (length bytes) 8 then true else
+    if from_be_bytes w32 (take 4 bytes) == 0 then false else
+    if from_be_bytes w32 (take 4 bytes) == 1 then is_cut_large bytes else
+    is_cut_size bytes 8 (from_be_bytes w32 (take 4 bytes))

@@ -1,3 +1,4 @@
+pub mod Crc
 pub mod JpegKinds
 pub mod JpegPieces
 pub mod Resources

@@ -1,7 +1,7 @@
 //! The pieces of a JPEG XL file in its container (ISO/IEC 18181-2, clause 9).
 
 ghost use Rattle.std.specs.Prelude.{◌≡◌, ◌<◌, ◌≤◌, ◌+◌, length};
-ghost use Rattle.exif_inventory.specs.JxlPieces.{box_front, box_kind, box_piece, cut_box, cut_kind, exif_box, given_box, is_jxl, kind_box, large_box, other_box, rest_of_jxl, sized_box, whole_box};
+ghost use Rattle.exif_inventory.specs.JxlPieces.{box_front, box_kind, box_piece, cut_box, cut_kind, exif_box, given_box, is_cut_box, is_cut_large, is_cut_size, is_jxl, kind_box, large_box, other_box, rest_of_jxl, sized_box, whole_box};
 
 use crate::bytes::{bytes_at, is_named};
 use crate::kind::Kind;
@@ -205,4 +205,41 @@ pub fn box_piece(bytes: &[u8]) -> Piece
     }
     let size = u32::from_be_bytes([bytes[0], bytes[1], bytes[2], bytes[3]]);
     given_box(bytes, size)
+}
+
+// Whether a box of this size, whose header has so many bytes, is not whole.
+fn is_cut_size(bytes: &[u8], header: u64, size: u64) -> bool
+    ensures { result ≡ is_cut_size bytes.now header size }
+{
+    size < header || (bytes.len() as u64) < size
+}
+
+// Whether a box whose size has eight bytes is not whole.
+fn is_cut_large(bytes: &[u8]) -> bool
+    requires { 8 ≤ length bytes.now }
+    ensures { result ≡ is_cut_large bytes.now }
+{
+    if bytes.len() < LARGE_LEN {
+        return true;
+    }
+    let size = u64::from_be_bytes([
+        bytes[8], bytes[9], bytes[10], bytes[11], bytes[12], bytes[13], bytes[14], bytes[15],
+    ]);
+    is_cut_size(bytes, LARGE_LEN as u64, size)
+}
+
+/// Whether the box at the front of bytes is cut off: they have no header of a box, or other bytes
+/// than its size says.
+pub fn is_cut_box(bytes: &[u8]) -> bool
+    ensures { result ≡ is_cut_box bytes.now }
+{
+    if bytes.len() < HEADER_LEN {
+        return true;
+    }
+    let size = u32::from_be_bytes([bytes[0], bytes[1], bytes[2], bytes[3]]);
+    match size {
+        0 => false,
+        1 => is_cut_large(bytes),
+        _ => is_cut_size(bytes, HEADER_LEN as u64, u64::from(size)),
+    }
 }

@@ -23,6 +23,6 @@ pub use file::{Meta, is_heif, meta_of, pass};
 pub use front::{header_of, settled_meta, sizes_itself};
 pub use kind::Kind;
 pub use located::{LocatedExif, locate, located_in};
-pub use locations::{Extent, Location, Sizes};
+pub use locations::{Extent, Location, Sizes, item_location};
 pub use ranges::item_ranges;
 pub use splitter::{BoxSplitter, Header};

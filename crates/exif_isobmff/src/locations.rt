@@ -195,7 +195,11 @@ fn last_location(
     Ok(last)
 }
 
-/// The last location of the wanted item in an `iloc` box.
+/// The last location of the wanted item in the body of an `iloc` box, whatever the item is.
+///
+/// Refusals come in the order of the bytes: versions over 2, data in another file, and fields of
+/// other sizes than 0, 4 or 8 bytes, up to the last item that the box counts. It takes the memory
+/// of the extents.
 #[tactic(auto, unfolding(crate::specs::ItemLocations::locations))]
 pub fn item_location(
     alloc: Global,

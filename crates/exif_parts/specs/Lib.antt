@@ -1,6 +1,17 @@
 pub mod Examples
 pub mod Jpeg
+pub mod Jxl
+pub mod JxlExamples
+pub mod JxlLaws
 pub mod Kept
 pub mod Laws
 pub mod Markers
+pub mod Png
+pub mod PngExamples
+pub mod PngLaws
+pub mod Webp
+pub mod WebpChunks
+pub mod WebpExamples
+pub mod WebpLaws
+pub mod WebpViews
 pub mod Written

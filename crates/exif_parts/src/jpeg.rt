@@ -87,8 +87,8 @@ fn pending(here: bool, new: &[u8]) -> &[u8]
     if here { &[] } else { new }
 }
 
-// What stays of the bytes behind the image.
-fn behind(remove: Remove, rest: &[u8]) -> &[u8]
+/// What stays of the bytes behind the image.
+pub fn behind(remove: Remove, rest: &[u8]) -> &[u8]
     ensures { result.now ≡ behind remove rest.now }
 {
     match remove {

@@ -8,9 +8,9 @@ use std::alloc::AllocError;
 /// How a file ended that was written again.
 #[derive(Clone, Copy, Debug, PartialEq, Eq)]
 pub enum Ended {
-    /// With the end of its image.
+    /// With the end of its image, or of its last box.
     Whole,
-    /// Before the end of its image.
+    /// Before the end of its image, or within a box.
     Cut,
 }
 

@@ -1,15 +1,12 @@
--- What the calls on PNG files answer, from their clauses.
-use Rattle.std.proofs.Common.{◌≡◌, ℕ, ◌-◌, ◌^◌, List, [], ◌∷◌, ◌++◌, take, Option, None, Some, Result, Ok, Err, Vec, Global, IfOk, IfErr, MatchOption, Contains, ap, sym, subst, ◌∙◌}
+-- What the calls on PNG and JPEG XL files answer, from their clauses.
+use Rattle.std.proofs.Common.{◌≡◌, ℕ, ◌-◌, ◌^◌, List, Option, None, Some, Result, Ok, Err, Vec, Global, IfOk, IfErr, MatchOption, ap, subst}
+use Rattle.exif_formats.specs.Jxl.{jxl_answer}
 use Rattle.exif_formats.specs.Pictures.{png_data}
 use Rattle.exif_containers.specs.Png.{png_answer}
 use Rattle.exif_containers.specs.Container.{data_of}
-use Rattle.exif_rewrite_png.specs.Faults.{rewriting_refusals}
-use Rattle.exif_rewrite_png.specs.RewrittenPng.{png_rewriting}
-use Rattle.exif_segments.specs.Answer.{Answer, IsNamed, found}
-use Rattle.exif_segments.specs.declared.remove.Remove.{Remove}
+use Rattle.exif_segments.specs.Answer.{Answer, found}
 use Rattle.exif_types.specs.Failures.{Failure}
 use Rattle.exif_types.specs.Refusals.{Fails, Gives, IsInterrupted, Refusal, refusal_of}
-use Rattle.exif_pictures.specs.PngChanges.{made, whole_of}
 
 abbrev pub items_of : Vec ℕ Global → List ℕ
 items_of v = v.items
@@ -35,26 +32,11 @@ unfolding png_data
 gives_png result xs ys file f r e =
     subst (λ (bytes : List ℕ). Gives items_of result (png_data bytes)) e (gives_by (png_answer (2 ^ 64 - 1)) result xs ys f r)
 
--- a file that was written again whole
-pub made_whole : (what : Remove) (put : Option (List ℕ)) (file items : List ℕ)
-    → (png_rewriting what put (take (2 ^ 64 - 1) file)).refusal ≡ None
-    → (png_rewriting what put (take (2 ^ 64 - 1) file)).out ≡ items
-    → made what put file ≡ Ok items
-unfolding made
-made_whole what put file items n o =
-    ap (whole_of (png_rewriting what put (take (2 ^ 64 - 1) file))) n ∙ ap Ok o
-
-by_refusal : (o : Option Refusal) (I : Type 0) (a : Result (List ℕ) Refusal) (has : Refusal → Type 0)
-    → MatchOption o I (Contains rewriting_refusals) → MatchOption o (Unit {0}) has → ((r : Refusal) → has r → a ≡ Err r)
-    → MatchOption o I (λ r. a ≡ Err r)
-by_refusal None I a has named h k = named
-by_refusal (Some r) I a has named h k = k r h
-
--- or refused
-pub made_refused : (x : Failure) (what : Remove) (put : Option (List ℕ)) (file : List ℕ) → IsNamed rewriting_refusals x
-    → MatchOption (refusal_of x) (Unit {0}) (λ r. (png_rewriting what put (take (2 ^ 64 - 1) file)).refusal ≡ Some r)
-    → Fails x (made what put file)
-unfolding made
-made_refused x what put file named h =
-    by_refusal (refusal_of x) (IsInterrupted x) (made what put file) (λ r. (png_rewriting what put (take (2 ^ 64 - 1) file)).refusal ≡ Some r) named h
-    (λ r e. ap (whole_of (png_rewriting what put (take (2 ^ 64 - 1) file))) e)
+-- the same of a JPEG XL file
+pub gives_jxl : (result : Result (Vec ℕ Global) Failure) (xs ys file : List ℕ)
+    → IfOk result (λ v. jxl_answer xs ≡ found v.items ys)
+    → IfErr result (λ e. Fails e (jxl_answer xs))
+    → xs ≡ file
+    → Gives items_of result (data_of (jxl_answer file))
+gives_jxl result xs ys file f r e =
+    subst (λ (bytes : List ℕ). Gives items_of result (data_of (jxl_answer bytes))) e (gives_by jxl_answer result xs ys f r)

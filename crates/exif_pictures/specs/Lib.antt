@@ -1,6 +1,7 @@
 pub mod Boxes
 pub mod Codestreams
 pub mod PngChanges
+pub mod Contained
 pub mod Ways
 pub mod OtherDates
 pub mod Rotation

@@ -22,21 +22,19 @@ use Rattle.exif_change.specs.declared.scrubbing.Removed.TheVariants as removed
 use Rattle.exif_pictures.specs.Boxes.{jxl_emptied}
 use Rattle.exif_pictures.specs.Codestreams.{codestream_of}
 use Rattle.exif_pictures.specs.OtherDates.{has_other_dates, leaves_dates, with_other_dates}
-use Rattle.exif_pictures.specs.PngChanges.{png_emptied, png_set, png_shifted, png_unlocated}
+use Rattle.exif_pictures.specs.Contained.{contained_set, contained_shifted}
+use Rattle.exif_pictures.specs.PngChanges.{png_emptied, png_unlocated}
 use Rattle.exif_pictures.specs.Rotation.{file_turned, if_turned, png_turned}
 use Rattle.exif_pictures.specs.Ways.{way_for}
 use Rattle.exif_pictures.specs.declared.codestream.Codestream.{Codestream}
 use Rattle.exif_pictures.specs.declared.codestream.Codestream.TheVariants as codestream
+use Rattle.exif_pictures.specs.declared.contained.Container.TheVariants as container
 use Rattle.exif_pictures.specs.declared.way.Way.{Way}
 use Rattle.exif_pictures.specs.declared.way.Way.TheVariants as way
 
 -- raw files are refused
 abbrev pub raw_refused : Why
 raw_refused = reading (not_supported (codes "raw files are not changed; use an XMP sidecar"))
-
--- values and dates of JPEG XL files are not set
-abbrev pub jxl_refused : Why
-jxl_refused = reading (not_supported (codes "no values are set in JPEG XL files"))
 
 -- a PNG file without what is removed
 abbrev pub png_scrubbed : Removed → List ℕ → Result Change Why
@@ -105,22 +103,32 @@ color_scrubbed_by way.Raw removed file = Err raw_refused
 abbrev pub picture_scrubbed_with_color : Removed → List ℕ → Result Change Why
 picture_scrubbed_with_color removed file = color_scrubbed_by (way_for file) removed file
 
+-- a JPEG XL file with values set, if it has a codestream
+abbrev pub jxl_set : List Assignment → List ℕ → Result Change Why
+jxl_set assignments file =
+    by_codestream (codestream_of file) (contained_set container.Jxl assignments file)
+
 -- a file with values set; where dates are, those that it may have beside its Exif data stay
 abbrev pub set_by : Way → List Assignment → List ℕ → Result Change Why
 set_by way.Known assignments file = set_file assignments file
-set_by way.Png assignments file = png_set assignments file
-set_by way.Jxl assignments file = Err jxl_refused
+set_by way.Png assignments file = contained_set container.Png assignments file
+set_by way.Jxl assignments file = jxl_set assignments file
 set_by way.Raw assignments file = Err raw_refused
 
 abbrev pub picture_set : List Assignment → List ℕ → Result Change Why
 picture_set assignments file =
     with_other_dates (leaves_dates assignments file) (set_by (way_for file) assignments file)
 
+-- a JPEG XL file with its dates moved, if it has a codestream
+abbrev pub jxl_shifted : ClockShift → Dates → List ℕ → Result Change Why
+jxl_shifted by dates file =
+    by_codestream (codestream_of file) (contained_shifted container.Jxl by dates file)
+
 -- a file with its dates moved; those that it may have beside its Exif data stay
 abbrev pub shifted_by : Way → ClockShift → Dates → List ℕ → Result Change Why
 shifted_by way.Known by dates file = shifted by dates file
-shifted_by way.Png by dates file = png_shifted by dates file
-shifted_by way.Jxl by dates file = Err jxl_refused
+shifted_by way.Png by dates file = contained_shifted container.Png by dates file
+shifted_by way.Jxl by dates file = jxl_shifted by dates file
 shifted_by way.Raw by dates file = Err raw_refused
 
 abbrev pub picture_shifted : ClockShift → Dates → List ℕ → Result Change Why

@@ -5,6 +5,7 @@
 #![tactic(auto)]
 
 mod codestream;
+mod contained;
 mod jxl;
 mod other_dates;
 mod pictures;

@@ -7,14 +7,14 @@ ghost use Rattle.exif_change.specs.Notes.{scrub_notes};
 ghost use Rattle.exif_change.specs.Refusals.{Answers, why_of};
 ghost use Rattle.exif_pictures.specs.Rotation.{if_turned};
 ghost use Rattle.exif_pictures.specs.Ways.{way_for};
-ghost use Rattle.exif_pictures.specs.Pictures.{if_cut_off, jxl_refused, jxl_scrubbed, jxl_unlocated, jxl_without, no_codestream, picture_notes, picture_scrubbed, picture_scrubbed_with_color, picture_set, picture_shifted, png_scrubbed, png_with_color, raw_refused, set_by, shifted_by};
+ghost use Rattle.exif_pictures.specs.Pictures.{if_cut_off, jxl_scrubbed, jxl_set, jxl_shifted, jxl_unlocated, jxl_without, no_codestream, picture_notes, picture_scrubbed, picture_scrubbed_with_color, picture_set, picture_shifted, png_scrubbed, png_with_color, raw_refused, set_by, shifted_by};
 
 use crate::codestream::{Codestream, codestream_of};
+use crate::contained::{Container, whole};
 use crate::other_dates::{has_other_dates, leaves_dates, with_other_dates};
-use crate::png::whole;
 use crate::rotation::{file_turned, note_turned, png_turned};
 use crate::way::{Way, way_for};
-use crate::{jxl, png};
+use crate::{contained, jxl, png};
 use exif::Error;
 use exif_change::{
     Assignment, Changed, ClockShift, Color, Dates, Left, Note, Refusal, Removed, Unread,
@@ -30,13 +30,6 @@ fn raw_refused() -> Refusal
 {
     let text = "raw files are not changed; use an XMP sidecar";
     Refusal::Reading(Error::NotSupported(text))
-}
-
-// Why values and dates of JPEG XL files are not set.
-fn jxl_refused() -> Refusal
-    ensures { why_of result ≡ Some jxl_refused }
-{
-    Refusal::Reading(Error::NotSupported("no values are set in JPEG XL files"))
 }
 
 // A PNG file without what is removed.
@@ -102,7 +95,7 @@ fn jxl_scrubbed(alloc: Global, file: Vec<u8>, removed: Removed) -> Result<Change
 /// The picture without what is removed: [`exif_change::scrub`] for TIFF, JPEG, HEIF and WebP files.
 ///
 /// A PNG file is written again without the chunks that do not show the picture
-/// ([`exif_rewrite_png::rewrite_png`]). In a JPEG XL file they become free space; the picture keeps
+/// ([`exif_parts::rewrite_png`]). In a JPEG XL file they become free space; the picture keeps
 /// its own orientation. One that is cut off is changed as far as it goes, which is answered; one
 /// whose container has no codestream is refused. Where locations are erased no byte moves, and the
 /// CRCs of the chunks that were changed are mended. Raw files are refused. It takes the memory of
@@ -151,13 +144,26 @@ pub fn scrub_with_color(alloc: Global, file: Vec<u8>, removed: Removed) -> Resul
 }
 
 /// The picture with values set: [`exif_change::set`] for TIFF, JPEG, HEIF and WebP files. The Exif
-/// data of a PNG file are changed as a TIFF file is, or it gets new ones. Other files are refused.
-/// Where a date is set and the file has XMP or IPTC data, the answer has that their dates stay.
+/// data of a PNG or JPEG XL file are changed as a TIFF file is, or it gets new ones. Other files
+/// are refused, and so are compressed Exif data of a JPEG XL file and a codestream without a container.
+/// A JPEG XL file that is cut off is changed as far as it goes, which is answered. Where a date is
+/// set and the file has XMP or IPTC data, the answer has that their dates stay.
 pub fn set(alloc: Global, file: Vec<u8>, assignments: &[Assignment<'_>]) -> Result<Changed, Refusal>
     ensures { Answers change_of result (picture_set assignments.now file.items) }
 {
     let others = leaves_dates(alloc, file.as_slice(), assignments)?;
     with_other_dates(others, set_by_way(alloc, file, assignments)?)
+}
+
+// A JPEG XL file with values set, if it has a codestream.
+fn jxl_set(alloc: Global, assignments: &[Assignment<'_>], file: Vec<u8>) -> Result<Changed, Refusal>
+    ensures { Answers change_of result (jxl_set assignments.now file.items) }
+{
+    match codestream_of(file.as_slice()) {
+        Codestream::Absent => Err(no_codestream()),
+        Codestream::CutOff => { cut_off(contained::set(alloc, Container::Jxl, assignments, file)?) }
+        Codestream::Whole => contained::set(alloc, Container::Jxl, assignments, file),
+    }
 }
 
 // The picture with values set, by its format.
@@ -171,19 +177,30 @@ fn set_by_way(
 {
     match way_for(file.as_slice()) {
         Way::Known => exif_change::set(alloc, file, assignments),
-        Way::Png => png::set(alloc, assignments, file),
-        Way::Jxl => Err(jxl_refused()),
+        Way::Png => contained::set(alloc, Container::Png, assignments, file),
+        Way::Jxl => jxl_set(alloc, assignments, file),
         Way::Raw => Err(raw_refused()),
     }
 }
 
-/// The picture with its dates moved: [`exif_change::shift`], also in the Exif data of a PNG file.
-/// Where the file has XMP or IPTC data, the answer has that their dates stay.
+/// The picture with its dates moved: [`exif_change::shift`], also in the Exif data of a PNG or JPEG
+/// XL file. Where the file has XMP or IPTC data, the answer has that their dates stay.
 pub fn shift(alloc: Global, file: Vec<u8>, by: ClockShift, dates: Dates) -> Result<Changed, Refusal>
     ensures { Answers change_of result (picture_shifted by dates file.items) }
 {
     let others = has_other_dates(alloc, file.as_slice())?;
     with_other_dates(others, shift_by_way(alloc, file, by, dates)?)
+}
+
+// A JPEG XL file with its dates moved, if it has a codestream.
+fn jxl_shifted(alloc: Global, by: ClockShift, dates: Dates, file: &[u8]) -> Result<Changed, Refusal>
+    ensures { Answers change_of result (jxl_shifted by dates file.now) }
+{
+    match codestream_of(file) {
+        Codestream::Absent => Err(no_codestream()),
+        Codestream::CutOff => cut_off(contained::shift(alloc, Container::Jxl, by, dates, file)?),
+        Codestream::Whole => contained::shift(alloc, Container::Jxl, by, dates, file),
+    }
 }
 
 // The picture with its dates moved, by its format.
@@ -197,8 +214,8 @@ fn shift_by_way(
 {
     match way_for(file.as_slice()) {
         Way::Known => exif_change::shift(alloc, file, by, dates),
-        Way::Png => png::shift(alloc, by, dates, file.as_slice()),
-        Way::Jxl => Err(jxl_refused()),
+        Way::Png => contained::shift(alloc, Container::Png, by, dates, file.as_slice()),
+        Way::Jxl => jxl_shifted(alloc, by, dates, file.as_slice()),
         Way::Raw => Err(raw_refused()),
     }
 }

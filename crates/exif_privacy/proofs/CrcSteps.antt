@@ -5,8 +5,8 @@ use Rattle.std.proofs.lemmas.Bool.Decides.{nat_tests}
 use Rattle.std.specs.Int.{to_be_bytes, w32}
 use Rattle.std.specs.List.{list_any}
 use Rattle.std.specs.Str.{bytes_eq}
+use Rattle.exif_inventory.specs.Crc.{crc32}
 use Rattle.exif_inventory.specs.declared.part.Part.{Part}
-use Rattle.exif_rewrite_png.specs.Crc.{crc32}
 use Rattle.exif_containers.specs.Png.{begins_png}
 use Rattle.exif_privacy.specs.Chunks.{in_crc, is_chunk, part_bytes, part_mended, parts_mended, with_crc}
 use Rattle.exif_privacy.specs.Promises.{AllElseStays, OthersStay, may_be_new, may_change}

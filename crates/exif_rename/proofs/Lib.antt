@@ -13,3 +13,5 @@ pub mod Searches
 pub mod Begun
 pub mod Numbered
 pub mod Chosen
+pub mod LineTexts
+pub mod Togethers

@@ -1,17 +1,19 @@
 -- Worked examples: patterns, names and plans.
-use Rattle.std.specs.Prelude.{◌≡◌, refl, ℕ, List, [], ◌∷◌, ◌++◌, Bool, true, false, not, None, Some, Ok, Err, codes}
+use Rattle.std.specs.Prelude.{◌≡◌, refl, ℕ, List, [], ◌∷◌, ◌++◌, Bool, true, false, not, None, Some, Ok, Err, codes, filter}
 use Rattle.std.specs.Char.{encode_utf8}
 use Rattle.std.specs.Fmt.{digits}
 use Rattle.std.specs.Str.{chars, trim_end, trim_start}
 use Rattle.std.specs.declared.cmp.Ordering.TheVariants.{Less, Greater}
 use Rattle.exif_files.specs.Each.{is_among}
 use Rattle.exif_rename.specs.Grouped.{ending_of, grouped}
+use Rattle.exif_rename.specs.Lines.{is_filled, lines_in}
 use Rattle.exif_rename.specs.Naming.{Known, named, safe}
 use Rattle.exif_rename.specs.Nested.{folders_of}
 use Rattle.exif_rename.specs.Orders.{dated_cmp, moment_cmp}
 use Rattle.exif_rename.specs.Patterns.{parsed}
 use Rattle.exif_rename.specs.Planned.{fit_from, own_from, planned}
 use Rattle.exif_rename.specs.Texts.{pattern_text}
+use Rattle.exif_rename.specs.Together.{place, places}
 use Rattle.exif_rename.specs.Undo.{line_of}
 use Rattle.exif_rename.specs.Unused.{unused, unused_from}
 use Rattle.exif_rename.specs.Wishes.{Wanted, moves_by}
@@ -189,6 +191,19 @@ only_a_name = refl
 one_stem : grouped ((codes "d/a.JPG", false) ∷ (codes "d/a.NEF", false) ∷ (codes "d/a.jpg.xmp", true) ∷ (codes "d/a.xmp", true)
     ∷ (codes "e/a.JPG", false) ∷ (codes "d/b.c.xmp", true) ∷ []) ≡ 0 ∷ 0 ∷ 0 ∷ 0 ∷ 4 ∷ 5 ∷ []
 one_stem = refl
+
+-- two stems: a sidecar comes before its picture, and each file once
+two_stems : places ((codes "d/a.JPG", false) ∷ (codes "d/b.JPG", false) ∷ (codes "d/a.xmp", true) ∷ [])
+    ≡ place 0 2 ∷ place 0 0 ∷ place 1 1 ∷ []
+two_stems = refl
+
+-- ---- the lines of a run
+
+two_lines : filter is_filled (lines_in (97 ∷ 10 ∷ 10 ∷ 98 ∷ 10 ∷ [])) ≡ (97 ∷ []) ∷ (98 ∷ []) ∷ []
+two_lines = refl
+
+no_line : filter is_filled (lines_in []) ≡ []
+no_line = refl
 
 -- ---- folders of new names
 

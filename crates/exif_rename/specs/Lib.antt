@@ -3,6 +3,7 @@ pub mod Dates
 pub mod Examples
 pub mod Failures
 pub mod Grouped
+pub mod Lines
 pub mod MoveParts
 pub mod Moves
 pub mod Naming
@@ -13,6 +14,7 @@ pub mod Planned
 pub mod Present
 pub mod Starts
 pub mod Texts
+pub mod Together
 pub mod Undo
 pub mod Unused
 pub mod Views

@@ -10,12 +10,11 @@ use Rattle.exif_containers.specs.declared.container.Format.TheVariants.{Tiff, Jp
 use Rattle.exif_segments.specs.declared.remove.Remove.{Remove}
 use Rattle.exif_parts.specs.Jpeg.{Rewriting, rewritten}
 use Rattle.exif_parts.specs.Laws as jpeg_laws
+use Rattle.exif_parts.specs.WebpLaws.{WebpAnswers, WebpIsAnswered, WebpIsStable}
 use Rattle.exif_parts.specs.Written.{Written}
 use Rattle.exif_parts.specs.declared.rewritten.Ended.TheVariants.{Whole}
 use Rattle.exif_parts.proofs.Answered.{begun}
-use Rattle.exif_rewrite.specs.RewrittenJpeg.{jpeg_rewriting, unless_cut}
-use Rattle.exif_rewrite.specs.RewrittenWebp.{webp_rewriting}
-use Rattle.exif_rewrite.specs.WebpLaws.{FileAnswers, FileIsAnswered, FileIsStable}
+use Rattle.exif_rewrite.specs.RewrittenJpeg.{unless_cut}
 use Rattle.exif_rewrite.specs.FileLaws.{AnswersPut, IsFound, IsSettled}
 use Rattle.exif_rewrite.specs.RewrittenFile.{file_rewriting, heif_stays, rewriting_as, tiff_stays}
 use Rattle.exif_rewrite.proofs.FileHeads.{jpeg_container, jpeg_head, webp_begins, webp_container, webp_head}
@@ -28,6 +27,13 @@ JpegIsAnswered remove put bytes = (new : Written) → jpeg_laws.IsAnswered remov
 abbrev JpegIsStable : Remove → Option (List ℕ) → List ℕ → Type 0
 JpegIsStable remove put bytes = (new : Written) → jpeg_laws.IsStable remove put bytes new
 
+-- and those of WebP files
+abbrev FileIsAnswered : Remove → Option (List ℕ) → List ℕ → Type 0
+FileIsAnswered remove put bytes = (new : List ℕ) → WebpIsAnswered remove put bytes new
+
+abbrev FileIsStable : Remove → Option (List ℕ) → List ℕ → Type 0
+FileIsStable remove put bytes = (new : List ℕ) → WebpIsStable remove put bytes new
+
 -- a whole file
 abbrev whole : List ℕ → Written
 whole out = record { bytes = out; ended = Whole }
@@ -39,7 +45,7 @@ jpeg_put : (put : Option (List ℕ)) (out : List ℕ) → container_answer out �
 jpeg_put None out e h = inl (e ∙ ap data_of h)
 jpeg_put (Some payload) out e h = e ∙ ap data_of h.1
 
-webp_put : (put : Option (List ℕ)) (out : List ℕ) → container_answer out ≡ data_of (webp_answer out) → FileAnswers put out → AnswersPut put (container_answer out)
+webp_put : (put : Option (List ℕ)) (out : List ℕ) → container_answer out ≡ data_of (webp_answer out) → WebpAnswers put out → AnswersPut put (container_answer out)
 webp_put None out e h = inr (e ∙ ap data_of h)
 webp_put (Some payload) out e h = e ∙ ap data_of h.1
 

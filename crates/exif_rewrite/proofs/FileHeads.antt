@@ -13,7 +13,7 @@ use Rattle.exif_containers.specs.Container.{answer_as, container_answer, data_of
 use Rattle.exif_segments.specs.Jpeg.{jpeg_answer}
 use Rattle.exif_segments.specs.Webp.{begins_webp, broken_webp, no_exif_in_webp, not_webp, webp_answer}
 use Rattle.exif_containers.specs.declared.container.Format.TheVariants.{Jpeg, Heif, WebP}
-use Rattle.exif_rewrite.specs.WebpLaws.{FileAnswers}
+use Rattle.exif_parts.specs.WebpLaws.{WebpAnswers}
 
 -- ---- JPEG streams
 
@@ -81,6 +81,6 @@ begins-so false true x y e f g = refl
 begins-so false false x y e f g = absurd (g e)
 
 -- what answers Exif data, or that there are none, begins as a WebP file
-pub webp_begins : (put : Option (List ℕ)) (out : List ℕ) → FileAnswers put out → begins_webp out ≡ true
+pub webp_begins : (put : Option (List ℕ)) (out : List ℕ) → WebpAnswers put out → begins_webp out ≡ true
 webp_begins None out h = begins-so (ltb (length out) 12) (begins_webp out) _ (refused no_exif_in_webp) h (λ e. cc) (λ e. cc)
 webp_begins (Some payload) out h = begins-so (ltb (length out) 12) (begins_webp out) _ (found payload h.0) h.1 (λ e. cc) (λ e. cc)

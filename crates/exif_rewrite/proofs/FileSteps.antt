@@ -1,5 +1,5 @@
 -- A file whose first bytes choose, and what each container's call says of it.
-use Rattle.std.proofs.Common.{◌≡◌, ℕ, ◌<◌, ◌≤◌, ◌^◌, List, ◌∷◌, [], ◌++◌, length, take, Option, None, Some, Result, IfErr, IfSome, OnOk, Ok, Err, sym, subst, ◌∙◌, arith}
+use Rattle.std.proofs.Common.{◌≡◌, ℕ, ◌<◌, ◌≤◌, List, ◌∷◌, [], ◌++◌, length, take, Option, None, Some, Result, IfErr, IfSome, OnOk, Ok, Err, sym, subst, arith}
 use Rattle.std.proofs.lemmas.List.{length-take-le}
 use Rattle.std.proofs.lemmas.List.Elements.{Contains-append_left, Contains-append_right}
 use Rattle.std.specs.Io.KnownBytes.{Consumes, IsAtEnd, prepend_known}
@@ -12,9 +12,10 @@ use Rattle.exif_containers.specs.declared.container.Format.TheVariants.{Tiff, Jp
 use Rattle.exif_containers.proofs.ContainerSteps.{head-first}
 use Rattle.exif_containers.proofs.ContainerNames.{more_named}
 use Rattle.exif_segments.specs.declared.remove.Remove.{Remove}
+use Rattle.exif_parts.specs.Webp.{webp_rewritten}
 use Rattle.exif_rewrite.specs.RewrittenFile.{file_refusals, file_rewriting, heif_stays, rewriting_as, tiff_stays}
 use Rattle.exif_rewrite.specs.RewrittenJpeg.{jpeg_rewriting, jpeg_rewriting_refusals}
-use Rattle.exif_rewrite.specs.RewrittenWebp.{webp_rewriting, webp_rewriting_refusals}
+use Rattle.exif_rewrite.specs.RewrittenWebp.{webp_rewriting_refusals}
 
 -- ---- the head
 
@@ -66,7 +67,7 @@ unfolding rewriting_as
 jpeg_as format remove put is xs = rw is
 
 -- and so does a WebP file
-pub webp_as : (format : Option Format) (remove : Remove) (put : Option (List ℕ)) → format ≡ Some WebP → (xs : List ℕ) → rewriting_as format remove put xs ≡ webp_rewriting remove put xs
+pub webp_as : (format : Option Format) (remove : Remove) (put : Option (List ℕ)) → format ≡ Some WebP → (xs : List ℕ) → rewriting_as format remove put xs ≡ webp_rewritten remove put xs
 unfolding rewriting_as
 webp_as format remove put is xs = rw is
 

@@ -16,7 +16,7 @@ use Rattle.exif_parts.specs.Written.{Written, written_of}
 use Rattle.exif_parts.specs.declared.rewritten.Ended.{Ended}
 use Rattle.exif_parts.specs.declared.rewritten.Ended.TheVariants.{Whole, Cut}
 use Rattle.exif_parts.specs.declared.rewritten.Rewritten.{Rewritten}
-use Rattle.exif_rewrite.specs.RewrittenJpeg.{jpeg_rewriting, jpeg_rewriting_refusals, unless_cut}
+use Rattle.exif_rewrite.specs.RewrittenJpeg.{jpeg_rewriting_refusals, unless_cut}
 use Rattle.exif_rewrite.proofs.SendingFiles.{then_known}
 
 -- ---- all refusals are named

@@ -4,7 +4,4 @@ pub mod FileSteps
 pub mod JpegSteps
 pub mod ScrubbedSteps
 pub mod SendingFiles
-pub mod WebpAnswers
-pub mod WebpLaws
 pub mod WebpSteps
-pub mod WebpTwice

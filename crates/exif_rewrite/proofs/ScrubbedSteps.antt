@@ -5,7 +5,6 @@ use Rattle.exif_base.specs.declared.endian.Order.{Order}
 use Rattle.exif_types.specs.Failures.{Failure}
 use Rattle.exif_types.specs.Refusals.{Fails, IsInterrupted, Refusal, refusal_of}
 use Rattle.exif_types.specs.Sound.{IsRead}
-use Rattle.exif_types.specs.declared.error.Error.TheVariants as error
 use Rattle.exif_types.specs.declared.field.Field.{Field}
 use Rattle.exif_layout.specs.Flat.{flat}
 use Rattle.exif_layout.specs.Groups.{Group}

@@ -1,6 +1,6 @@
 -- A JPEG, WebP or PNG file without its colour profile (ICC.1:2022, B.4; WebP Container
 -- Specification, "Extended File Format", "Color Profile"; PNG Specification, 11.3.2.3).
-use Rattle.std.specs.Prelude.{ℕ, ◌+◌, ◌-◌, ◌/◌, ◌%◌, ◌==◌, ◌&&◌, List, [], ◌∷◌, ◌++◌, length, take, drop, codes, slice_index, slice_set, nat_lt, Bool, true, false, Option, None, Some, if◌then◌else◌}
+use Rattle.std.specs.Prelude.{ℕ, ◌-◌, ◌&&◌, List, [], ◌∷◌, ◌++◌, length, take, drop, codes, slice_index, slice_set, nat_lt, Bool, true, false, Option, if◌then◌else◌}
 use Rattle.std.specs.Option.{option_map}
 use Rattle.std.specs.Str.{bytes_eq}
 use Rattle.byteorder.specs.Endian.{little_bytes, little_number}
@@ -8,7 +8,7 @@ use Rattle.exif_inventory.specs.declared.kind.Kind.{Kind}
 use Rattle.exif_inventory.specs.declared.kind.Kind.TheVariants as kind
 use Rattle.exif_inventory.specs.declared.part.Part.{Part}
 use Rattle.exif_inventory.specs.Walks.{inventory}
-use Rattle.exif_rewrite.specs.RewrittenWebp.{without}
+use Rattle.exif_parts.specs.Webp.{without}
 
 -- whether a part is of a colour profile
 abbrev pub is_profile : Kind → Bool

@@ -1,5 +1,5 @@
 -- Worked examples: files with a colour profile, by bytes written by hand.
-use Rattle.std.specs.Prelude.{◌≡◌, refl, List, [], ◌∷◌, ◌++◌, codes, Some, None}
+use Rattle.std.specs.Prelude.{◌≡◌, refl, [], ◌∷◌, ◌++◌, codes, Some, None}
 use Rattle.exif_inventory.specs.Walks.{walked}
 use Rattle.exif_inventory.specs.JpegPieces.{between_piece, stream_piece}
 use Rattle.exif_inventory.specs.WebpPieces.{chunk_piece}

@@ -7,7 +7,3 @@ pub mod RewrittenJpeg
 pub mod RewrittenWebp
 pub mod ScrubbedExif
 pub mod SentFiles
-pub mod WebpChunks
-pub mod WebpExamples
-pub mod WebpLaws
-pub mod WebpPlans

@@ -5,8 +5,9 @@ use Rattle.exif_containers.specs.declared.container.Format.{Format}
 use Rattle.exif_containers.specs.declared.container.Format.TheVariants.{Tiff, Jpeg, Heif, WebP}
 use Rattle.exif_containers.specs.Container.{format_in, unknown_format}
 use Rattle.exif_segments.specs.declared.remove.Remove.{Remove}
+use Rattle.exif_parts.specs.Webp.{webp_rewritten}
 use Rattle.exif_rewrite.specs.RewrittenJpeg.{jpeg_rewriting, jpeg_rewriting_refusals}
-use Rattle.exif_rewrite.specs.RewrittenWebp.{webp_rewriting, webp_rewriting_refusals}
+use Rattle.exif_rewrite.specs.RewrittenWebp.{webp_rewriting_refusals}
 
 -- what TIFF data and HEIF files hold is found by its offset in the file
 abbrev pub tiff_stays : Refusal
@@ -30,7 +31,7 @@ IsRewritten format = (format ≡ Some Jpeg) ⊎ (format ≡ Some WebP)
 unfoldable pub rewriting_as : Option Format → Remove → Option (List ℕ) → List ℕ
     → Result (List ℕ) Refusal
 rewriting_as (Some Jpeg) remove put bytes = jpeg_rewriting remove put bytes
-rewriting_as (Some WebP) remove put bytes = webp_rewriting remove put bytes
+rewriting_as (Some WebP) remove put bytes = webp_rewritten remove put bytes
 rewriting_as (Some Heif) remove put bytes = Err heif_stays
 rewriting_as (Some Tiff) remove put bytes = Err tiff_stays
 rewriting_as None remove put bytes = Err unknown_format

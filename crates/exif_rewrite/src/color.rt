@@ -2,8 +2,8 @@
 
 ghost use Rattle.std.specs.Prelude.{◌≡◌, ◌++◌, [], take, drop, IfOk, OnOk};
 ghost use Rattle.std.specs.Option.{option_map};
+ghost use Rattle.exif_parts.specs.Webp.{without};
 ghost use Rattle.exif_rewrite.specs.Color.{colorless, if_stays, is_profile, settled, shrunk, unflagged, with_staying, without_profiles};
-ghost use Rattle.exif_rewrite.specs.RewrittenWebp.{without};
 
 use exif_base::{Endian, LittleEndian};
 use exif_inventory::{Kind, Part, inventory};

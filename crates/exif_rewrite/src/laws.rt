@@ -1,12 +1,13 @@
-//! Laws of files that are written again, whatever container they are. Those of JPEG files are in
-//! `exif_parts`, those of WebP files in `webp::laws`.
+//! Laws of files that are written again, whatever container they are. Those of JPEG and WebP files
+//! are in `exif_parts`.
 
 ghost use Rattle.std.specs.Prelude.{ℕ, List, Option};
 ghost use Rattle.exif_segments.specs.declared.remove.Remove.{Remove};
 ghost use Rattle.exif_rewrite.specs.FileLaws.{IsFound, IsSettled};
 
-use crate::webp::laws::{webp_answers_what_was_put, webp_twice_is_once};
-use exif_parts::laws::{jpeg_answers_what_was_put, jpeg_twice_is_once};
+use exif_parts::laws::{
+    jpeg_answers_what_was_put, jpeg_twice_is_once, webp_answers_what_was_put, webp_twice_is_once,
+};
 
 /// Reading a file that was written again finds the new Exif data, or that there are none.
 pub fn file_answers_what_was_put()

@@ -8,6 +8,7 @@ pub mod jpeg;
 pub mod laws;
 pub mod scrubbed;
 pub mod scrubbing;
+mod sending;
 pub mod webp;
 
 pub use by_head::rewrite;

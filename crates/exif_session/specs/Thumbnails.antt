@@ -9,7 +9,7 @@ use Rattle.exif_types.specs.Refusals.{invalid_format}
 use Rattle.exif_session.specs.declared.thumbnails.Kept.{Kept}
 use Rattle.exif_session.specs.declared.thumbnails.Kept.TheVariants as kept
 
--- where a picture of a format has its thumbnail: in a box of its own, where the Exif data say that
+-- where a picture of a format has its thumbnail: in boxes of its own, where the Exif data say that
 -- are the file, there or in a JPEG stream of theirs, as an item, or in its Exif data
 abbrev pub kept_in : Option PictureFormat → Kept
 kept_in None = kept.Data

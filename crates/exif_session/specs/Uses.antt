@@ -1,5 +1,5 @@
 -- What a command requires of a file, and what became of one.
-use Rattle.std.specs.Prelude.{ℕ, ◌==◌, Bool, true, false, not, List, length, Option, None, Some}
+use Rattle.std.specs.Prelude.{ℕ, ⊤, ◌==◌, Bool, true, false, not, List, length, Option, None, Some}
 use Rattle.exif_decisions.specs.Endings.{ending_in}
 use Rattle.exif_decisions.specs.Found.{class_for}
 use Rattle.exif_decisions.specs.Paths.{name_of}
@@ -9,6 +9,8 @@ use Rattle.exif_decisions.specs.declared.found.Found.TheVariants as found
 use Rattle.exif_formats.specs.Formats.{format_in}
 use Rattle.exif_formats.specs.declared.format.PictureFormat.{PictureFormat}
 use Rattle.exif_formats.specs.declared.format.PictureFormat.TheVariants.{Tiff, Jpeg, Heif, WebP, Png, JpegXl, Raf, Orf, Rw2, Cr3}
+use Rattle.exif_session.specs.declared.inputs.Input.{Input}
+use Rattle.exif_session.specs.declared.inputs.Input.TheVariants as input
 use Rattle.exif_session.specs.declared.inputs.Use.{Use}
 use Rattle.exif_session.specs.declared.inputs.Use.TheVariants.{Fields, Parts}
 use Rattle.exif_session.specs.declared.request.Renaming.{Renaming}
@@ -35,6 +37,16 @@ abbrev pub serves : Option PictureFormat → Use → Bool
 serves None wanted = false
 serves (Some format) Fields = true
 serves (Some format) Parts = has_parts format
+
+-- an input that is held, and read again from memory alone
+abbrev pub IsInMemory : Input → Type 0
+IsInMemory (input.Bytes bytes) = ⊤
+IsInMemory (input.File file) = ⊥
+
+-- the bytes of one
+abbrev pub held : Input → Option (List ℕ)
+held (input.Bytes bytes) = Some bytes.items
+held (input.File file) = None
 
 -- what is done with a file that was found in a folder, by its first bytes, if they can be read, and
 -- its path: one that can't be read is processed, which reports that

@@ -1,6 +1,13 @@
 //! Files that are changed in place, each once.
 
-ghost use Rattle.std.specs.Prelude.{◌≡◌, ◌==◌, ◌<◌, ◌+◌, ◌^◌, IfOk, OnErr, length};
+ghost use Rattle.std.specs.Prelude.{◌≡◌, ◌==◌, ◌<◌, ◌+◌, ◌^◌, false, true, IfOk, OnErr, OnOk, Ok, length, map, option_map, string_bytes};
+ghost use Rattle.std.specs.Result.{IsErrAnd};
+ghost use Rattle.std.specs.IoError.{error_kind};
+ghost use Rattle.std.specs.Path.{path_buf_bytes};
+ghost use Rattle.exif_files.specs.Names.{name_if};
+ghost use Rattle.std.specs.Fmt.{DisplaysOnOk};
+ghost use Rattle.exif_session.specs.NotChangedTexts.{writing_text};
+ghost use Rattle.exif_session.specs.InPlace.{IsAdded, named_at};
 ghost use Rattle.exif_decisions.specs.Outcomes.{outcome_for};
 ghost use Rattle.exif_decisions.specs.declared.outcome.Outcome.TheVariants.{Refused};
 
@@ -72,7 +79,10 @@ fn change_files<E: Sink>(
 impl Plan {
     /// All files that are named or found. Names that can't be followed are reported and counted.
     /// Standard input is changed at once, into standard output.
-    pub fn gather<W: Sink, E: Sink>(session: &mut Session<'_, '_, W, E>) -> Result<Plan, Stop> {
+    pub fn gather<W: Sink, E: Sink>(session: &mut Session<'_, '_, W, E>) -> Result<Plan, Stop>
+        ensures keys { IfOk result (λ plan. length plan.keys.items ≡ length plan.paths.items) }
+        ensures all { OnOk result (length session.new.pending.waiting.items ≡ 0) }
+    {
         let alloc = session.rt.alloc();
         let mut plan = Plan {
             paths: Vec::new(alloc),
@@ -80,12 +90,12 @@ impl Plan {
         };
         for _ in 0..u64::MAX {
             match session.next_item()? {
-                None => break,
+                None => return Ok(plan),
                 Some(Item::Input) => change_input(session)?,
                 Some(Item::File(path)) => plan.add(session, path)?,
             }
         }
-        Ok(plan)
+        Err(Stop::OutOfMemory)
     }
 
     // Adds a file, or reports why it is none.
@@ -93,7 +103,12 @@ impl Plan {
         &mut self,
         session: &mut Session<'_, '_, W, E>,
         path: String,
-    ) -> Result<(), Stop> {
+    ) -> Result<(), Stop>
+        ensures added { OnOk result (IsAdded path self.old self.new session.old.pending
+            session.new.pending) }
+        ensures keys { OnOk result (length self.old.keys.items ≡ length self.old.paths.items
+            → length self.new.keys.items ≡ length self.new.paths.items) }
+    {
         match key_of(session.rt, path.as_str()) {
             Ok(key) => {
                 self.paths.push(path)?;
@@ -132,8 +147,10 @@ pub fn absolute_of(rt: &HostRuntime, path: &str) -> Result<String, AllocError> {
     absolute_by(rt.alloc(), path, text_of(&found), text_of(&folder))
 }
 
-// The text of a path, if there is one.
-fn text_of(path: &Option<PathBuf>) -> Option<&str> {
+/// The text of a path, if there is one.
+pub fn text_of(path: &Option<PathBuf>) -> Option<&str>
+    ensures { name_if result ≡ option_map path_buf_bytes path.now }
+{
     match path {
         Some(path) => Some(path.as_path().as_str()),
         None => None,
@@ -142,11 +159,33 @@ fn text_of(path: &Option<PathBuf>) -> Option<&str> {
 
 /// Where the links of a path end, if that is a regular file.
 pub fn key_of(rt: &HostRuntime, path: &str) -> io::Result<String> {
-    if !fs::metadata(rt, path)?.is_file() {
-        return Err(io::Error::new(ErrorKind::InvalidInput, "not a regular file"));
-    }
+    if_regular(fs::metadata(rt, path)?.is_file())?;
     let path = fs::canonicalize(rt, path)?;
     Ok(String::from_str(rt.alloc(), path.as_path().as_str())?)
+}
+
+// Refuses what is no regular file.
+fn if_regular(is_file: bool) -> io::Result<()>
+    ensures file { is_file ≡ true → result ≡ Ok tt }
+    ensures other { is_file ≡ false → IsErrAnd result (λ e.
+        error_kind e ≡ ErrorKind.InvalidInput) }
+{
+    if is_file {
+        Ok(())
+    } else {
+        Err(io::Error::new(ErrorKind::InvalidInput, "not a regular file"))
+    }
+}
+
+// The path and the key of a file that is reported: empty ones where there is none of this number.
+fn named_at<'a>(paths: &'a [String], keys: &'a [String], index: usize) -> (&'a str, &'a str)
+    ensures { (result.0.now, result.1.now)
+        ≡ named_at (map string_bytes paths.now) (map string_bytes keys.now) index }
+{
+    match (paths.get(index), keys.get(index)) {
+        (Some(path), Some(key)) => (path.as_str(), key.as_str()),
+        _ => ("", ""),
+    }
 }
 
 // Counts each file, and writes what is reported of it.
@@ -184,10 +223,7 @@ impl<'p, 'c, 'r, E: Sink> Reporter<Left, Note, Refusal> for Messages<'p, 'c, 'r,
         ensures { self.new.heard ≡ self.old.heard + 1 }
     {
         let index = self.heard;
-        let (path, key) = match (self.paths.get(index), self.keys.get(index)) {
-            (Some(path), Some(key)) => (path.as_str(), key.as_str()),
-            _ => ("", ""),
-        };
+        let (path, key) = named_at(self.paths, self.keys, index);
         self.counts.add(outcome_of(&outcome));
         match outcome {
             Ok(report) => self.say_all(path, &report),
@@ -216,16 +252,33 @@ pub struct NotChanged<'k, R> {
 }
 
 impl<R: Display> Display for NotChanged<'_, R> {
+    ghost use Rattle.exif_session.specs.NotChangedTexts.{not_changed_text};
+
+    ghost output = { λ why. not_changed_text R.output why.key.now why.failure };
+
     fn fmt<W: fmt::Write>(&self, f: &mut fmt::Formatter<W>) -> fmt::Result {
         match &self.failure {
             Failure::Reading(cause) => write!(f, "{cause}"),
             Failure::Refused(refusal) => write!(f, "{refusal}"),
             Failure::OutOfMemory => f.write_str("out of memory"),
-            Failure::Writing(WriteError::Taken) => {
-                let key = Escaped(self.key);
-                write!(f, "not changed: the backup {key}.orig exists")
-            }
-            Failure::Writing(cause) => write!(f, "cannot replace the file: {cause}"),
+            Failure::Writing(cause) => write_writing(f, self.key, cause),
         }
+    }
+}
+
+// Writes why the new file was not written.
+fn write_writing<W: fmt::Write>(
+    f: &mut fmt::Formatter<W>,
+    key: &str,
+    cause: &WriteError,
+) -> fmt::Result
+    ensures { DisplaysOnOk W.write_str_gives f.old result (writing_text key.now cause.now) f.new }
+{
+    match cause {
+        WriteError::Taken => {
+            let key = Escaped(key);
+            write!(f, "not changed: the backup {key}.orig exists")
+        }
+        cause => write!(f, "cannot replace the file: {cause}"),
     }
 }

@@ -1,9 +1,10 @@
 //! Files as they are read: a file that seeks costs what is read of it, anything else is taken into
 //! memory.
 
-ghost use Rattle.std.specs.Prelude.{◌≡◌, option_map};
+ghost use Rattle.std.specs.Prelude.{◌≡◌, ℕ, List, Option, IfOk, IfSome, codes, option_map, take};
 ghost use Rattle.exif_formats.specs.Formats.{format_in};
-ghost use Rattle.exif_session.specs.Uses.{found_for, has_parts, serves};
+ghost use Rattle.exif_formats.specs.Pictures.{ReadsPicture};
+ghost use Rattle.exif_session.specs.Uses.{IsInMemory, found_for, has_parts, held, serves};
 
 use exif::{Counted, Error, Seekable};
 use exif_containers::container::SNIFF_LEN;
@@ -23,7 +24,9 @@ pub enum Input {
 }
 
 /// Opens a file, `-` for standard input.
-pub fn open(rt: &HostRuntime, path: &str) -> io::Result<Input> {
+pub fn open(rt: &HostRuntime, path: &str) -> io::Result<Input>
+    ensures { path.now ≡ codes "-" → IfOk result IsInMemory }
+{
     if path == "-" {
         return Ok(Input::Bytes(read_all(rt.alloc(), rt.stdin())?));
     }
@@ -82,7 +85,9 @@ fn is_supported(head: &[u8], wanted: Use) -> bool
 
 /// What is done with a file that was found in a folder, by its first bytes and its name. One that
 /// can't be read is processed, which reports that.
-pub fn found_in_folder(rt: &HostRuntime, path: &str, wanted: Use) -> Found {
+pub fn found_in_folder(rt: &HostRuntime, path: &str, wanted: Use) -> Found
+    ensures { (head : Option (List ℕ)) × (result ≡ found_for head path.now wanted) }
+{
     let head = match File::open(rt, path) {
         Ok(mut file) => head_of(rt.alloc(), &mut file),
         Err(cause) => Err(cause),
@@ -117,7 +122,12 @@ fn head_of(alloc: Global, file: &mut File) -> io::Result<Vec<u8>> {
 }
 
 /// The format of what is read, and what a reader answers of it, in one pass.
-pub fn read(alloc: Global, options: Options, input: Input) -> Result<Picture, Error> {
+pub fn read(alloc: Global, options: Options, input: Input) -> Result<Picture, Error>
+    ensures format { IfOk result (λ picture. IfSome (held input) (λ bytes.
+        picture.format ≡ format_in (take 4096 bytes))) }
+    ensures reads { IfOk result (λ picture. IfSome (held input) (λ bytes.
+        ReadsPicture options.lenient options.limit bytes picture.answer)) }
+{
     match input {
         Input::Bytes(bytes) => read_picture(options, alloc, &mut Counted::new(bytes.as_slice())),
         Input::File(file) => read_picture(options, alloc, &mut Seekable::new(file)),

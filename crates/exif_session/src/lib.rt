@@ -34,7 +34,7 @@ pub use lines::Lines;
 pub use naming::{NewName, name_by};
 pub use notes::NoteLine;
 pub use output::{OutError, out_of, write_out};
-pub use pending::{Next, Pending};
+pub use pending::{Next, Pending, Waiting};
 pub use request::{
     Cataloguing, Change, Copying, Form, Geotagging, Paging, Reading, Renaming, Request, Table,
     Target, Task,

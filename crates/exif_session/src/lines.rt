@@ -1,5 +1,8 @@
 //! The lines of a report as they are shown: control characters escaped, long values in short.
 
+ghost use Rattle.std.specs.Prelude.{◌≡◌, ◌++◌, true, IfOk, codes, string_bytes};
+ghost use Rattle.exif_decisions.specs.Escaping.{escaped_text};
+
 use exif::Sink;
 use exif_base::send_all;
 use exif_decisions::Escaped;
@@ -75,7 +78,10 @@ impl<'w, W: Sink> Write for Lines<'w, W> {
 }
 
 // A line as it is shown.
-fn shown(alloc: Global, line: &str, full: bool) -> Result<String, AllocError> {
+fn shown(alloc: Global, line: &str, full: bool) -> Result<String, AllocError>
+    ensures { full ≡ true → IfOk result (λ text. string_bytes text
+        ≡ escaped_text line.now ++ codes "\n") }
+{
     let (name, value) = split(line);
     let count = value.chars().count();
     if full || count <= LONG {

@@ -1,5 +1,8 @@
 //! Notes on a change, in words.
 
+ghost use Rattle.std.specs.Prelude.{Some};
+ghost use Rattle.exif_session.specs.Words.{note_text};
+
 use exif_change::Note;
 use std::fmt;
 
@@ -8,6 +11,8 @@ use std::fmt;
 pub struct NoteLine(pub Note);
 
 impl fmt::Display for NoteLine {
+    ghost output = { λ line. Some (note_text line.0) };
+
     fn fmt<W: fmt::Write>(&self, f: &mut fmt::Formatter<W>) -> fmt::Result {
         match self.0 {
             Note::ColorProfile => {

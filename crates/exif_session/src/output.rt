@@ -1,5 +1,11 @@
 //! Where OUT is written.
 
+ghost use Rattle.std.specs.Prelude.{◌≡◌, ◌≢◌, IfOk, string_bytes};
+ghost use Rattle.exif_files.specs.Names.{name_if};
+ghost use Rattle.exif_session.specs.OutTexts.{IsOutOf, IsWrittenAs, is_same_path, no_destination, out_answer, out_refusal, writing_error};
+ghost use Rattle.exif_decisions.specs.declared.rules.Destination.TheVariants.{StandardOutput};
+
+use crate::in_place::text_of;
 use crate::session::Stop;
 use exif::Sink;
 use exif_base::send_all;
@@ -22,6 +28,10 @@ pub enum OutError {
 }
 
 impl fmt::Display for OutError {
+    ghost use Rattle.exif_session.specs.OutTexts.{out_text};
+
+    ghost output = { out_text };
+
     fn fmt<W: fmt::Write>(&self, f: &mut fmt::Formatter<W>) -> fmt::Result {
         match self {
             OutError::Same => f.write_str("input and output are the same file"),
@@ -47,16 +57,27 @@ pub fn out_of(
     path: &str,
     to: &str,
     force: bool,
-) -> Result<Result<Destination, OutError>, AllocError> {
+) -> Result<Result<Destination, OutError>, AllocError>
+    ensures { IfOk result (λ answer. IsOutOf to.now force (out_answer answer)) }
+{
     let existing = existing_at(rt, to);
     let destination = destination_of(to == "-", is_same(rt, path, to), existing, force);
     let to = String::from_str(rt.alloc(), to)?;
     Ok(match destination {
         Ok(destination) => Ok(destination),
-        Err(NoDestination::Same) => Err(OutError::Same),
-        Err(NoDestination::Exists) => Err(OutError::Exists(to)),
-        Err(NoDestination::Special) => Err(OutError::Special(to)),
+        Err(why) => Err(refusal_of(why, to)),
     })
+}
+
+// Why nothing is written to OUT.
+fn refusal_of(why: NoDestination, to: String) -> OutError
+    ensures { out_refusal result ≡ no_destination why (string_bytes to) }
+{
+    match why {
+        NoDestination::Same => OutError::Same,
+        NoDestination::Exists => OutError::Exists(to),
+        NoDestination::Special => OutError::Special(to),
+    }
 }
 
 /// Writes a new file where it belongs.
@@ -66,7 +87,9 @@ pub fn write_out<W: Sink>(
     destination: Destination,
     bytes: &[u8],
     out: &mut W,
-) -> Result<Result<(), OutError>, Stop> {
+) -> Result<Result<(), OutError>, Stop>
+    ensures { destination ≢ StandardOutput → out.new ≡ out.old }
+{
     let written = match destination {
         Destination::New => create_new(rt.alloc(), &mut HostFiles::new(rt), to, bytes),
         Destination::Replace => replace_out(rt, to, bytes),
@@ -75,18 +98,31 @@ pub fn write_out<W: Sink>(
             Ok(())
         }
     };
+    answer_of(rt.alloc(), to, written)
+}
+
+// What is answered of a file that was written.
+fn answer_of(
+    alloc: Global,
+    to: &str,
+    written: Result<(), WriteError>,
+) -> Result<Result<(), OutError>, Stop>
+    ensures { IfOk result (λ answer. IsWrittenAs to.now written answer) }
+{
     match written {
         Ok(()) => Ok(Ok(())),
         Err(WriteError::OutOfMemory) => Err(Stop::OutOfMemory),
-        Err(error) => Ok(Err(error_of(rt.alloc(), to, error)?)),
+        Err(error) => Ok(Err(error_of(String::from_str(alloc, to)?, error))),
     }
 }
 
-fn error_of(alloc: Global, to: &str, error: WriteError) -> Result<OutError, AllocError> {
-    let to = String::from_str(alloc, to)?;
+// Why a file was not written.
+fn error_of(to: String, error: WriteError) -> OutError
+    ensures { result ≡ writing_error error to }
+{
     match error {
-        WriteError::Taken => Ok(OutError::Exists(to)),
-        error => Ok(OutError::Writing(to, error)),
+        WriteError::Taken => OutError::Exists(to),
+        error => OutError::Writing(to, error),
     }
 }
 
@@ -115,8 +151,17 @@ fn existing_at(rt: &HostRuntime, to: &str) -> Existing {
 
 // Whether two paths lead to one file.
 fn is_same(rt: &HostRuntime, path: &str, to: &str) -> bool {
-    match (fs::canonicalize(rt, path), fs::canonicalize(rt, to)) {
-        (Ok(path), Ok(to)) => path.as_path().as_str() == to.as_path().as_str(),
+    let path = fs::canonicalize(rt, path).ok();
+    let to = fs::canonicalize(rt, to).ok();
+    is_same_path(text_of(&path), text_of(&to))
+}
+
+// Whether two paths that lead to something lead to one file, by where their links end.
+fn is_same_path(path: Option<&str>, to: Option<&str>) -> bool
+    ensures { result ≡ is_same_path (name_if path.entry) (name_if to.entry) }
+{
+    match (path, to) {
+        (Some(path), Some(to)) => path == to,
         _ => false,
     }
 }

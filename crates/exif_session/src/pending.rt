@@ -1,7 +1,14 @@
 //! The files that are named, and those in folders, one after the other.
 
+ghost use Rattle.std.specs.Prelude.{◌≡◌, ◌≢◌, ◌++◌, ℕ, List, IfOk, None, length, map, option_map, reverse, string_bytes};
+ghost use Rattle.exif_decisions.specs.Paths.{name_of};
+ghost use Rattle.exif_decisions.specs.Rules.{look_for};
+ghost use Rattle.exif_decisions.specs.Tallies.{no_counts};
+ghost use Rattle.exif_decisions.specs.declared.rules.Action.TheVariants.{Enter};
+ghost use Rattle.exif_session.specs.Pending.{IsActed, IsEntered, IsFollowed, counted_action, found, named, next_file, waiting_of};
+
 use exif_decisions::{
-    Action, Counts, Look, NotRead, action_of, is_inside, kind_of, look_of, name_of, readable,
+    Action, Counts, Kind, Look, NotRead, action_of, is_inside, kind_of, look_of, name_of, readable,
     slash_after,
 };
 use std::alloc::{AllocError, Global};
@@ -15,20 +22,23 @@ const BLOCK: usize = 8192;
 /// The files that were not processed yet.
 #[derive(Drop)]
 pub struct Pending {
-    // the last is the next
-    waiting: Vec<Waiting>,
-    recursive: bool,
+    /// Files and folders. The last is the next.
+    pub waiting: Vec<Waiting>,
+    /// Whether folders that are named are entered.
+    pub recursive: bool,
     /// What was skipped so far.
     pub counts: Counts,
     /// Temporary files that were found since this was looked at last.
     pub temporary: Vec<String>,
 }
 
-// A file or a folder.
+/// A file or a folder that waits.
 #[derive(Drop)]
-struct Waiting {
-    path: String,
-    is_named: bool,
+pub struct Waiting {
+    /// Its path.
+    pub path: String,
+    /// Whether it was named; else it was found in a folder.
+    pub is_named: bool,
 }
 
 /// What is processed next.
@@ -48,15 +58,22 @@ pub enum Next {
 
 impl Pending {
     /// The files of these names.
-    pub fn new(alloc: Global, paths: &[&str], recursive: bool) -> Result<Pending, AllocError> {
+    pub fn new(alloc: Global, paths: &[&str], recursive: bool) -> Result<Pending, AllocError>
+        ensures waiting { IfOk result (λ pending. map waiting_of pending.waiting.items
+            ≡ reverse (map (λ path. named path.now) paths.now)) }
+        ensures recursive { IfOk result (λ pending. pending.recursive ≡ recursive) }
+        ensures counts { IfOk result (λ pending. pending.counts ≡ no_counts) }
+        ensures temporary { IfOk result (λ pending. length pending.temporary.items ≡ 0) }
+    {
         let mut waiting = Vec::new(alloc);
-        for path in paths.iter().rev() {
+        for path in paths {
             let path = String::from_str(alloc, path)?;
             waiting.push(Waiting {
                 path,
                 is_named: true,
             })?;
         }
+        waiting.reverse();
         Ok(Pending {
             waiting,
             recursive,
@@ -66,10 +83,25 @@ impl Pending {
     }
 
     /// Adds the names that a reader holds, each ended by a zero byte; the last may lack it.
-    pub fn add_names<R: Read + Drop>(&mut self, alloc: Global, mut reader: R) -> io::Result<()> {
+    pub fn add_names<R: Read + Drop>(&mut self, alloc: Global, mut reader: R) -> io::Result<()>
+        ensures counts { self.new.counts ≡ self.old.counts }
+        ensures recursive { self.new.recursive ≡ self.old.recursive }
+    {
         let mut names = Vec::new(alloc);
         reader.read_to_end(&mut names)?;
-        for name in names.split(|byte| *byte == 0).rev() {
+        self.add_listed(alloc, names.as_slice())?;
+        Ok(())
+    }
+
+    // Adds names that are each ended by a zero byte, before those that wait.
+    fn add_listed(&mut self, alloc: Global, names: &[u8]) -> Result<(), AllocError>
+        ensures waiting { (paths : List (List ℕ)) × (map waiting_of self.new.waiting.items
+            ≡ map waiting_of self.old.waiting.items ++ map named paths) }
+        ensures counts { self.new.counts ≡ self.old.counts }
+        ensures recursive { self.new.recursive ≡ self.old.recursive }
+    {
+        let names: Vec<&[u8]> = names.split(|byte| *byte == 0).collect(alloc)?;
+        for name in names.as_slice().iter().rev() {
             if !name.is_empty() {
                 let path = readable(alloc, name)?;
                 self.waiting.push(Waiting {
@@ -82,12 +114,17 @@ impl Pending {
     }
 
     /// How many files and folders were not processed yet.
-    pub fn len(&self) -> usize {
+    pub fn len(&self) -> usize
+        ensures { result ≡ length self.now.waiting.items }
+    {
         self.waiting.len()
     }
 
-    /// The next one, if there is one.
-    pub fn next(&mut self, rt: &HostRuntime) -> Result<Option<Next>, AllocError> {
+    /// The next one; none only where nothing waits.
+    pub fn next(&mut self, rt: &HostRuntime) -> Result<Option<Next>, AllocError>
+        ensures none { IfOk result (λ next. next ≡ None → length self.new.waiting.items ≡ 0) }
+        ensures recursive { self.new.recursive ≡ self.old.recursive }
+    {
         for _ in 0..u64::MAX {
             let Some(waiting) = self.waiting.pop() else {
                 return Ok(None);
@@ -96,33 +133,51 @@ impl Pending {
                 return Ok(Some(next));
             }
         }
-        Ok(None)
+        Err(AllocError)
     }
 
     // What a name leads to: nothing where it is a folder, whose files wait then, or is skipped.
-    fn follow(&mut self, rt: &HostRuntime, waiting: Waiting) -> Result<Option<Next>, AllocError> {
+    fn follow(&mut self, rt: &HostRuntime, waiting: Waiting) -> Result<Option<Next>, AllocError>
+        ensures next { let path = string_bytes waiting.path in
+            IfOk result (λ next. IsFollowed (look_for path waiting.is_named) path waiting.is_named
+            self.old.recursive self.old.counts self.new.counts (option_map next_file next)) }
+        ensures recursive { self.new.recursive ≡ self.old.recursive }
+    {
         let Waiting { path, is_named } = waiting;
         match look_of(path.as_str(), is_named) {
-            Look::Input => return Ok(Some(Next::Input)),
+            Look::Input => Ok(Some(Next::Input)),
             Look::Unreadable => {
                 let cause = io::Error::new(
                     ErrorKind::InvalidFilename,
                     "the name is not valid UTF-8",
                 );
-                return Ok(Some(Next::Failed(path, cause)));
+                Ok(Some(Next::Failed(path, cause)))
             }
-            Look::Path => {}
+            Look::Path => match kind_at(rt, path.as_str(), is_named) {
+                Ok(kind) => {
+                    let name = name_of(path.as_str());
+                    let action = action_of(kind, is_named, name, self.recursive);
+                    self.act(rt, action, path)
+                }
+                Err(cause) => Ok(Some(Next::Failed(path, cause))),
+            },
         }
-        let found = if is_named {
-            fs::metadata(rt, path.as_str())
-        } else {
-            fs::symlink_metadata(rt, path.as_str())
-        };
-        let kind = match found {
-            Err(cause) => return Ok(Some(Next::Failed(path, cause))),
-            Ok(found) => kind_of(found.is_dir(), found.is_file(), found.is_symlink()),
-        };
-        match action_of(kind, is_named, name_of(path.as_str()), self.recursive) {
+    }
+
+    // What is done with a path. The other files wait still.
+    fn act(
+        &mut self,
+        rt: &HostRuntime,
+        action: Action,
+        path: String,
+    ) -> Result<Option<Next>, AllocError>
+        ensures next { IfOk result (λ next.
+            IsActed action (string_bytes path) (option_map next_file next)) }
+        ensures counts { self.new.counts ≡ counted_action action self.old.counts }
+        ensures recursive { self.new.recursive ≡ self.old.recursive }
+        ensures waiting { action ≢ Enter → self.new.waiting ≡ self.old.waiting }
+    {
+        match action {
             Action::Process => Ok(Some(Next::Named(path))),
             Action::ProcessPicture => Ok(Some(Next::Found(path))),
             Action::Enter => self.enter(rt, path),
@@ -147,8 +202,15 @@ impl Pending {
         }
     }
 
-    // Has the files of a folder wait, in the order of their names.
-    fn enter(&mut self, rt: &HostRuntime, path: String) -> Result<Option<Next>, AllocError> {
+    // Has the files of a folder wait, in the order of their names, before the others.
+    fn enter(&mut self, rt: &HostRuntime, path: String) -> Result<Option<Next>, AllocError>
+        ensures next { IfOk result (λ next.
+            IsEntered (string_bytes path) (option_map next_file next)) }
+        ensures counts { self.new.counts ≡ self.old.counts }
+        ensures recursive { self.new.recursive ≡ self.old.recursive }
+        ensures waiting { (paths : List (List ℕ)) × (map waiting_of self.new.waiting.items
+            ≡ map waiting_of self.old.waiting.items ++ map found paths) }
+    {
         match names_in(rt, path.as_str()) {
             Ok(names) => {
                 for path in names.into_iter().rev() {
@@ -162,6 +224,16 @@ impl Pending {
             Err(cause) => Ok(Some(Next::Failed(path, cause))),
         }
     }
+}
+
+// The kind of a path. The links of one that was named are followed.
+fn kind_at(rt: &HostRuntime, path: &str, is_named: bool) -> io::Result<Kind> {
+    let found = if is_named {
+        fs::metadata(rt, path)?
+    } else {
+        fs::symlink_metadata(rt, path)?
+    };
+    Ok(kind_of(found.is_dir(), found.is_file(), found.is_symlink()))
 }
 
 // The paths of what is in a folder, sorted. A name that is no UTF-8 is as `readable` writes it.

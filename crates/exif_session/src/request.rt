@@ -2,6 +2,7 @@
 
 ghost use Rattle.std.specs.Prelude.{◌≡◌};
 ghost use Rattle.exif_session.specs.Uses.{changes, takes_companions, use_for};
+ghost use Rattle.exif_session.specs.Words.{partial_of, renamed_as, verb_of};
 
 use crate::inputs::Use;
 use exif::Tag;
@@ -66,7 +67,9 @@ pub enum Task<'a> {
 
 impl Task<'_> {
     /// What it does with files, in a summary.
-    pub fn verb(&self) -> &'static str {
+    pub fn verb(&self) -> &'static str
+        ensures { result.now ≡ verb_of self.now }
+    {
         match self {
             Task::Change(..) | Task::Geotag(_) => "changed",
             Task::Rename(renaming) => renaming.verb(),
@@ -95,7 +98,9 @@ impl Task<'_> {
     }
 
     /// What a summary says of the files of which something was skipped, left undone or found.
-    pub fn partial(&self) -> &'static str {
+    pub fn partial(&self) -> &'static str
+        ensures { result.now ≡ partial_of self.now }
+    {
         match self {
             Task::Check(..) => "with findings",
             _ => "not completely",
@@ -203,7 +208,9 @@ pub struct Renaming<'a> {
 
 impl Renaming<'_> {
     /// What is done with the files, in a summary.
-    pub fn verb(&self) -> &'static str {
+    pub fn verb(&self) -> &'static str
+        ensures { result.now ≡ renamed_as self.now.dry_run self.now.copy }
+    {
         if self.dry_run {
             "planned"
         } else if self.copy {

@@ -1,10 +1,14 @@
 //! What a run has: the files that wait, and where its answers and messages go.
 
-ghost use Rattle.std.specs.Prelude.{◌≡◌, IfOk};
+ghost use Rattle.std.specs.Prelude.{◌≡◌, false, length, map, option_map, reverse, string_bytes, None, Ok, IfOk, OnErr, OnOk};
 ghost use Rattle.exif_decisions.specs.Outcomes.{outcome_with};
-ghost use Rattle.exif_decisions.specs.Tallies.{counted_current, counted_done, counted_partial, counted_refused, counted_unchanged, status_in};
+ghost use Rattle.exif_decisions.specs.Tallies.{counted, counted_current, counted_done, counted_partial, counted_refused, counted_unchanged, no_counts, skipped, status_in};
 ghost use Rattle.exif_decisions.specs.declared.outcome.Outcome.TheVariants.{Partial, Refused, Unchanged};
 ghost use Rattle.exif_files.specs.Statuses.{code, worse};
+ghost use Rattle.exif_files.specs.declared.outcome.Status.TheVariants as status;
+ghost use Rattle.exif_session.specs.Choosing.{IsChosen, IsChosenInFolder};
+ghost use Rattle.exif_session.specs.Pending.{named, next_file, waiting_of, with_counts};
+ghost use Rattle.exif_session.specs.Uses.{changes, takes_companions};
 
 use crate::choosing::is_chosen;
 use crate::console::Console;
@@ -74,7 +78,13 @@ impl<'r, 'a, W: Sink, E: Sink> Session<'r, 'a, W, E> {
         shows_progress: bool,
         out: &'r mut W,
         err: &'r mut E,
-    ) -> Result<Session<'r, 'a, W, E>, Stop> {
+    ) -> Result<Session<'r, 'a, W, E>, Stop>
+        ensures request { IfOk result (λ session. session.request.now ≡ request.now) }
+        ensures paths { request.now.names_from_input ≡ false → IfOk result (λ session.
+            map waiting_of session.pending.waiting.items
+            ≡ reverse (map (λ path. named path.now) request.now.paths.items)) }
+        ensures counts { IfOk result (λ session. session.pending.counts ≡ no_counts) }
+    {
         let mut pending = Pending::new(rt.alloc(), request.paths.as_slice(), request.recursive)?;
         if request.names_from_input {
             let added = pending.add_names(rt.alloc(), rt.stdin());
@@ -99,8 +109,8 @@ impl<'r, 'a, W: Sink, E: Sink> Session<'r, 'a, W, E> {
         self.console.clear();
         if self.request.recursive && !self.request.quiet {
             let verb = self.request.task.verb();
-            let counts = &self.pending.counts;
             let partial = self.request.task.partial();
+            let counts = &self.pending.counts;
             let summary = Summary {
                 verb,
                 partial,
@@ -114,10 +124,14 @@ impl<'r, 'a, W: Sink, E: Sink> Session<'r, 'a, W, E> {
 
     /// The next file that is to be processed, or standard input. A name that can't be followed is
     /// reported, and counted as refused; a file that is not read is skipped.
-    pub fn next_item(&mut self) -> Result<Option<Item>, Stop> {
+    /// None only where nothing waits.
+    pub fn next_item(&mut self) -> Result<Option<Item>, Stop>
+        ensures none { IfOk result (λ item. item ≡ None
+            → length self.new.pending.waiting.items ≡ 0) }
+    {
         for _ in 0..u64::MAX {
             match self.next_chosen()? {
-                None => break,
+                None => return Ok(None),
                 Some(Next::Input) => return Ok(Some(Item::Input)),
                 Some(Next::Named(path)) => return Ok(Some(Item::File(path))),
                 Some(Next::Found(path)) => return Ok(Some(Item::File(path))),
@@ -128,40 +142,41 @@ impl<'r, 'a, W: Sink, E: Sink> Session<'r, 'a, W, E> {
                 }
             }
         }
-        Ok(None)
+        Err(Stop::OutOfMemory)
     }
 
     /// The next file that is to be processed, if there is one: one that is chosen, and where it was
     /// found in a folder, a picture. Others are skipped: counted, and reported where they are
-    /// pictures, videos or documents that are not read.
-    pub fn next_chosen(&mut self) -> Result<Option<Next>, Stop> {
+    /// pictures, videos or documents that are not read. None only where nothing waits.
+    pub fn next_chosen(&mut self) -> Result<Option<Next>, Stop>
+        ensures none { IfOk result (λ next. next ≡ None
+            → length self.new.pending.waiting.items ≡ 0) }
+    {
         for _ in 0..u64::MAX {
             let next = self.pending.next(self.rt)?;
             self.name_temporary()?;
             let Some(next) = next else {
-                break;
+                return Ok(None);
             };
             if let Some(next) = self.chosen(next)? {
                 return Ok(Some(next));
             }
         }
-        Ok(None)
+        Err(Stop::OutOfMemory)
     }
 
     // Reports the temporary files that were found. A run that changes files removes those that no
     // other run writes.
-    fn name_temporary(&mut self) -> Result<(), Stop> {
+    fn name_temporary(&mut self) -> Result<(), Stop>
+        ensures waiting { self.new.pending.waiting ≡ self.old.pending.waiting }
+        ensures counts { self.new.pending.counts ≡ self.old.pending.counts }
+    {
         for _ in 0..self.pending.temporary.len() {
             let Some(path) = self.pending.temporary.pop() else {
                 break;
             };
             let path = path.as_str();
-            let removed = if self.request.task.changes_files() {
-                remove_abandoned(self.rt, path).map(Some)
-            } else {
-                Ok(None)
-            };
-            match removed {
+            match self.remove_temporary(path) {
                 Ok(removed) => self.say(path, &fate_of(removed))?,
                 Err(cause) => {
                     let alloc = self.rt.alloc();
@@ -175,8 +190,24 @@ impl<'r, 'a, W: Sink, E: Sink> Session<'r, 'a, W, E> {
         Ok(())
     }
 
+    // Removes a temporary file that no other run writes, and answers whether it was removed; none
+    // where this run changes no files.
+    fn remove_temporary(&self, path: &str) -> io::Result<Option<bool>>
+        ensures { changes self.now.request.now.task ≡ false → result ≡ Ok None }
+    {
+        if self.request.task.changes_files() {
+            remove_abandoned(self.rt, path).map(Some)
+        } else {
+            Ok(None)
+        }
+    }
+
     // What is processed of a name: nothing where it is skipped.
-    fn chosen(&mut self, next: Next) -> Result<Option<Next>, Stop> {
+    fn chosen(&mut self, next: Next) -> Result<Option<Next>, Stop>
+        ensures chosen { IfOk result (λ kept.
+            IsChosen (next_file next) (option_map next_file kept)) }
+        ensures waiting { self.new.pending.waiting ≡ self.old.pending.waiting }
+    {
         match next {
             Next::Named(path) => {
                 if is_chosen(self.rt, self.request, path.as_str())? {
@@ -193,7 +224,12 @@ impl<'r, 'a, W: Sink, E: Sink> Session<'r, 'a, W, E> {
     }
 
     // What is processed of a file that was found in a folder.
-    fn chosen_in_folder(&mut self, path: String) -> Result<Option<Next>, Stop> {
+    fn chosen_in_folder(&mut self, path: String) -> Result<Option<Next>, Stop>
+        ensures chosen { IfOk result (λ kept. IsChosenInFolder
+            (takes_companions self.old.request.now.task) (string_bytes path)
+            self.old.pending.counts self.new.pending.counts (option_map next_file kept)) }
+        ensures waiting { self.new.pending.waiting ≡ self.old.pending.waiting }
+    {
         let found = found_in_folder(self.rt, path.as_str(), self.request.task.use_of_files());
         match found.step(self.request.task.moves_companions()) {
             FoundStep::Choose => {
@@ -213,7 +249,10 @@ impl<'r, 'a, W: Sink, E: Sink> Session<'r, 'a, W, E> {
 
     /// Skips a file that was found in a folder: it is counted, and reported where it is a picture,
     /// a video or a document that is not read.
-    pub fn skip(&mut self, path: &str, found: Found) -> Result<(), Stop> {
+    pub fn skip(&mut self, path: &str, found: Found) -> Result<(), Stop>
+        ensures { self.new.pending ≡ with_counts (skipped found self.old.pending.counts)
+            self.old.pending }
+    {
         self.pending.counts.skip(found);
         if let Some(why) = found.reported() {
             self.say(path, &why)?;
@@ -223,6 +262,8 @@ impl<'r, 'a, W: Sink, E: Sink> Session<'r, 'a, W, E> {
 
     /// Counts a file: what the summary says and the status of the run follow.
     pub fn count(&mut self, outcome: Outcome)
+        ensures pending { self.new.pending
+            ≡ with_counts (counted outcome self.old.pending.counts) self.old.pending }
         ensures done { self.new.pending.counts.done
             ≡ counted_done outcome self.old.pending.counts.done }
         ensures partial { self.new.pending.counts.partial
@@ -246,20 +287,26 @@ impl<'r, 'a, W: Sink, E: Sink> Session<'r, 'a, W, E> {
     }
 
     /// Reports why something that is no file of the run was refused, and counts it.
-    pub fn refuse_beside<T: Display>(&mut self, path: &str, cause: &T) -> Result<(), Stop> {
+    pub fn refuse_beside<T: Display>(&mut self, path: &str, cause: &T) -> Result<(), Stop>
+        ensures counted { OnOk result (self.new.pending.counts.beside ≡ status.Refused) }
+        ensures kept { OnErr result (self.new.pending ≡ self.old.pending) }
+    {
         self.say(path, cause)?;
         self.count_beside(Status::Refused);
         Ok(())
     }
 
     /// Writes an answer.
-    pub fn answer(&mut self, bytes: &[u8]) -> Result<(), Stop> {
+    pub fn answer(&mut self, bytes: &[u8]) -> Result<(), Stop>
+        ensures { self.new.pending ≡ self.old.pending }
+    {
         send_all(self.out, bytes).map_err(Stop::Output)
     }
 
     /// Reports why a file was refused.
     pub fn refuse<T: Display>(&mut self, path: &str, cause: &T) -> Result<Outcome, Stop>
-        ensures { IfOk result (λ outcome. outcome ≡ Refused) }
+        ensures outcome { IfOk result (λ outcome. outcome ≡ Refused) }
+        ensures pending { self.new.pending ≡ self.old.pending }
     {
         self.say(path, cause)?;
         Ok(Outcome::Refused)
@@ -267,7 +314,8 @@ impl<'r, 'a, W: Sink, E: Sink> Session<'r, 'a, W, E> {
 
     /// Reports why nothing was done with a file.
     pub fn leave<T: Display>(&mut self, path: &str, why: &T) -> Result<Outcome, Stop>
-        ensures { IfOk result (λ outcome. outcome ≡ Unchanged) }
+        ensures outcome { IfOk result (λ outcome. outcome ≡ Unchanged) }
+        ensures pending { self.new.pending ≡ self.old.pending }
     {
         self.say(path, why)?;
         Ok(Outcome::Unchanged)
@@ -275,7 +323,8 @@ impl<'r, 'a, W: Sink, E: Sink> Session<'r, 'a, W, E> {
 
     /// Reports what was skipped or left undone in a file.
     pub fn report_partial<T: Display>(&mut self, path: &str, what: &T) -> Result<Outcome, Stop>
-        ensures { IfOk result (λ outcome. outcome ≡ Partial) }
+        ensures outcome { IfOk result (λ outcome. outcome ≡ Partial) }
+        ensures pending { self.new.pending ≡ self.old.pending }
     {
         self.say(path, what)?;
         Ok(Outcome::Partial)
@@ -283,7 +332,8 @@ impl<'r, 'a, W: Sink, E: Sink> Session<'r, 'a, W, E> {
 
     /// Reports how many faults were skipped in a file that was read, if there were some.
     pub fn skip_faults(&mut self, path: &str, count: usize) -> Result<Outcome, Stop>
-        ensures { IfOk result (λ outcome. outcome ≡ outcome_with count) }
+        ensures outcome { IfOk result (λ outcome. outcome ≡ outcome_with count) }
+        ensures pending { self.new.pending ≡ self.old.pending }
     {
         if count > 0 {
             self.say(path, &SkippedFaults(count))?;
@@ -292,7 +342,9 @@ impl<'r, 'a, W: Sink, E: Sink> Session<'r, 'a, W, E> {
     }
 
     /// Writes a message about a file, after all answers that were written before.
-    pub fn say<T: Display>(&mut self, path: &str, what: &T) -> Result<(), Stop> {
+    pub fn say<T: Display>(&mut self, path: &str, what: &T) -> Result<(), Stop>
+        ensures { self.new.pending ≡ self.old.pending }
+    {
         self.out.flush().map_err(Stop::Output)?;
         self.console.say(path, what);
         Ok(())

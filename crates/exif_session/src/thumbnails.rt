@@ -11,8 +11,8 @@ use exif_formats::raw::cr3::find_thumbnail;
 use exif_formats::{Options, Picture, PictureFormat, read_bytes, read_picture};
 use exif_report::found_of;
 use exif_thumbnails::{
-    Place, Thumbnail, ends_search, jpg_from_raw, place_of, preview_places, read_place,
-    read_thumbnail_coding, whole_stream,
+    HeifThumbnail, Place, Thumbnail, ends_search, jpg_from_raw, place_of, preview_places,
+    read_cr3_preview, read_heif_thumbnail, read_place, whole_stream,
 };
 use std::alloc::Global;
 use std::io::{Seek, SeekFrom};
@@ -20,7 +20,7 @@ use std::io::{Seek, SeekFrom};
 // Where a picture has its thumbnail.
 #[derive(Clone, Copy)]
 enum Kept {
-    // in a box of its own
+    // in a box of its own: the thumbnail, or else the preview
     Box,
     // where its Exif data, which are the file, say
     File,
@@ -65,14 +65,15 @@ pub fn jpeg_of(found: Option<Thumbnail>) -> Result<Vec<u8>, Refusal>
 }
 
 /// The thumbnail of a picture, if it has one: that in its Exif data, which is read from the file
-/// where it is behind what was held of them, or else a preview; and that in a CR3 file's own box. Of
-/// one that is an item of a HEIF file, its coding is answered. Faults are skipped.
+/// where it is behind what was held of them, or else a preview; and that in the box of a CR3 file,
+/// or else its preview. Of one that is an item of a HEIF file and not read, its coding is answered.
+/// Faults are skipped.
 pub fn thumbnail_of(rt: &HostRuntime, path: &str) -> Result<Option<Thumbnail>, Error> {
     let alloc = rt.alloc();
     let input = open(rt, path)?;
     let picture = picture_in(alloc, &input)?;
     match kept_in(picture.format) {
-        Kept::Box => Ok(in_cr3(alloc, &input)?.map(Thumbnail::Jpeg)),
+        Kept::Box => in_cr3(alloc, &input),
         Kept::File => {
             let (exif, _faults) = found_of(alloc, picture.answer)?;
             in_tiff(alloc, &input, &exif)
@@ -170,19 +171,25 @@ fn in_heif(
     item_in(alloc, input)
 }
 
-// The thumbnail of a HEIF file that is an item.
+// The thumbnail of a HEIF file that is an item: its bytes, or how it is coded.
 fn item_in(alloc: Global, input: &Input) -> Result<Option<Thumbnail>, Error> {
-    let coding = match input {
-        Input::Bytes(bytes) => {
-            read_thumbnail_coding(alloc, &mut Counted::new(bytes.as_slice()))?
-        }
+    match known_in(alloc, input)? {
+        Some(HeifThumbnail::At(place)) => Ok(Some(at_place(alloc, input, place)?)),
+        Some(HeifThumbnail::Known(thumbnail)) => Ok(Some(thumbnail)),
+        None => Ok(None),
+    }
+}
+
+// What the first bytes of a HEIF file say of its thumbnail.
+fn known_in(alloc: Global, input: &Input) -> Result<Option<HeifThumbnail>, Error> {
+    match input {
+        Input::Bytes(bytes) => read_heif_thumbnail(alloc, &mut Counted::new(bytes.as_slice())),
         Input::File(file) => {
             let mut again = file;
             again.seek(SeekFrom::Start(0))?;
-            read_thumbnail_coding(alloc, &mut Seekable::new(again))?
+            read_heif_thumbnail(alloc, &mut Seekable::new(again))
         }
-    };
-    Ok(coding.map(Thumbnail::Item))
+    }
 }
 
 // What a file has at a place.
@@ -197,14 +204,34 @@ fn at_place(alloc: Global, input: &Input, place: Place) -> Result<Thumbnail, Err
     }
 }
 
-// The thumbnail of a CR3 file.
-fn in_cr3(alloc: Global, input: &Input) -> Result<Option<Vec<u8>>, Error> {
+// The thumbnail of a CR3 file, or else its preview.
+fn in_cr3(alloc: Global, input: &Input) -> Result<Option<Thumbnail>, Error> {
+    match box_in(alloc, input)? {
+        Some(jpeg) => Ok(Some(Thumbnail::Jpeg(jpeg))),
+        None => cr3_preview_in(alloc, input),
+    }
+}
+
+// The thumbnail in the box of its own of a CR3 file.
+fn box_in(alloc: Global, input: &Input) -> Result<Option<Vec<u8>>, Error> {
     match input {
         Input::Bytes(bytes) => find_thumbnail(alloc, &mut Counted::new(bytes.as_slice())),
         Input::File(file) => {
             let mut again = file;
             again.seek(SeekFrom::Start(0))?;
             find_thumbnail(alloc, &mut Seekable::new(again))
+        }
+    }
+}
+
+// The preview of a CR3 file.
+fn cr3_preview_in(alloc: Global, input: &Input) -> Result<Option<Thumbnail>, Error> {
+    match input {
+        Input::Bytes(bytes) => read_cr3_preview(alloc, &mut Counted::new(bytes.as_slice())),
+        Input::File(file) => {
+            let mut again = file;
+            again.seek(SeekFrom::Start(0))?;
+            read_cr3_preview(alloc, &mut Seekable::new(again))
         }
     }
 }

@@ -1,6 +1,9 @@
+pub mod Canon
+pub mod CanonExamples
 pub mod Heif
 pub mod HeifExamples
 pub mod Places
 pub mod PreviewExamples
 pub mod Previews
+pub mod Seen
 pub mod Streams

@@ -12,9 +12,9 @@ pub const MAX_THUMBNAIL_LEN: u32 = 1_048_576;
 #[derive(Clone, Copy, Debug)]
 pub struct Place {
     /// The offset of their first byte.
-    pub offset: u32,
+    pub offset: u64,
     /// How many bytes they have.
-    pub len: u32,
+    pub len: u64,
 }
 
 /// Where the thumbnail is (Exif 2.32, section 4.5.8): what the two fields of the second directory
@@ -24,7 +24,10 @@ pub fn place_of(exif: &Exif) -> Option<Place>
 {
     let offset = number_named(exif, Tag::JPEGInterchangeFormat)?;
     let len = number_named(exif, Tag::JPEGInterchangeFormatLength)?;
-    Some(Place { offset, len })
+    Some(Place {
+        offset: u64::from(offset),
+        len: u64::from(len),
+    })
 }
 
 // The number that a field of the second directory holds.

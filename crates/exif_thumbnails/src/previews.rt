@@ -114,7 +114,10 @@ fn place_named(
     let Some(len) = number_named(alloc, order, bytes, directory, len_tag)? else {
         return Ok(None);
     };
-    Ok(Some(Place { offset, len }))
+    Ok(Some(Place {
+        offset: u64::from(offset),
+        len: u64::from(len),
+    }))
 }
 
 // Whether the strip of a directory is JPEG data that need no tables, of colours and not raw.

@@ -21,7 +21,7 @@ pub enum Thumbnail {
     TooLong,
     /// The file ends before it does.
     CutOff,
-    /// It is an item of a HEIF file, which is coded so.
+    /// It is an item of a HEIF file, which is coded so, or whose bytes are in more than one part.
     Item(Coding),
 }
 
@@ -39,16 +39,15 @@ pub fn read_place<R: Source>(
     ensures interrupted { IfErr result IsInterrupted }
     ensures counts { Counts R.Source source.old source.new (is_io result) }
 {
-    if place.len > MAX_THUMBNAIL_LEN {
+    if place.len > u64::from(MAX_THUMBNAIL_LEN) {
         return Ok(Thumbnail::TooLong);
     }
-    if !pass_over(source, u64::from(place.offset))? {
+    if !pass_over(source, place.offset)? {
         return Ok(Thumbnail::CutOff);
     }
-    let len = u64::from(place.len);
     let mut jpeg = Vec::new(alloc);
-    let n = read_at_most(source, &mut jpeg, len)?;
-    if n < len {
+    let n = read_at_most(source, &mut jpeg, place.len)?;
+    if n < place.len {
         return Ok(Thumbnail::CutOff);
     }
     Ok(Thumbnail::Jpeg(jpeg))

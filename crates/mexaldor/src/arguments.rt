@@ -264,7 +264,7 @@ fn copy<'a>(alloc: Global) -> Result<Command<'a>, AllocError> {
         .about("Put the metadata of one picture into others, in place of their own")
         .override_usage("mexaldor copy [OPTIONS] FROM FILE...")
         .after_help(
-            "FROM is a picture of any format but TIFF and raw; XMP packets come from JPEG, PNG, WebP and JPEG XL, colour profiles from JPEG, PNG and WebP. FILE is a JPEG, WebP or PNG picture.",
+            "FROM is a picture of any format but TIFF and raw; XMP packets come from JPEG, PNG, WebP and JPEG XL, colour profiles from JPEG, PNG and WebP. FILE is a JPEG, WebP, PNG or JPEG XL picture; a packet and a profile are not put into JPEG XL.",
         )
         .arg(options::flag(
             alloc,

@@ -10,10 +10,11 @@ ghost use Rattle.exif_formats.specs.Cr3.{begins_cr3, broken_cr3, canon_parts, ca
 ghost use Rattle.exif_formats.specs.Cr3Steps.{parts_view};
 
 mod boxes;
-mod movie;
+mod walk;
 
 pub use self::boxes::first_held;
-use self::movie::first_movie;
+pub use self::walk::find_front;
+use self::walk::first_movie;
 use exif_base::{BigEndian, Endian, Source};
 use exif_types::Error;
 use std::alloc::{AllocError, Global};

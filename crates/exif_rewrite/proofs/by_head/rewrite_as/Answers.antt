@@ -3,7 +3,7 @@ use Rattle.exif_containers.specs.Container.{unknown_format}
 use Rattle.exif_segments.specs.Removing.{payload_of}
 use Rattle.exif_rewrite.specs.RewrittenFile.{heif_stays, rewriting_as, tiff_stays}
 use Rattle.exif_rewrite.specs.RewrittenJpeg.{jpeg_rewriting}
-use Rattle.exif_rewrite.specs.RewrittenWebp.{webp_rewriting}
+use Rattle.exif_parts.specs.Webp.{webp_rewritten}
 use Rattle.exif_rewrite.specs.SentFiles.{IsSent, StopsFile}
 use Rattle.exif_rewrite.proofs.FileSteps.{heif_refused, jpeg_as, jpeg_named, sent_as, stopped_as, tiff_refused, unknown_refused, webp_as, webp_named}
 use Rattle.exif_rewrite.proofs.SendingFiles.{always_known, refused_unsent}
@@ -30,13 +30,13 @@ returns-in-Some-Jpeg-clause-memory g c h = inl (search rules)
 pub returns-in-Some-WebP-clause-sent : goal.returns-in-Some-WebP-clause-sent
 returns-in-Some-WebP-clause-sent g c =
     let put = payload_of c.args.put in
-    sent_as (IsSent (g.W.Sink.taken c.args.out.now) _) c.rewrite_webp.result (g.R.Source.left c.args.source.now) (webp_rewriting c.args.remove put) (rewriting_as c.args.format c.args.remove put)
+    sent_as (IsSent (g.W.Sink.taken c.args.out.now) _) c.rewrite_webp.result (g.R.Source.left c.args.source.now) (webp_rewritten c.args.remove put) (rewriting_as c.args.format c.args.remove put)
     (webp_as c.args.format c.args.remove put (search rules)) c.rewrite_webp.ensures.sent
 
 pub returns-in-Some-WebP-clause-stopped : goal.returns-in-Some-WebP-clause-stopped
 returns-in-Some-WebP-clause-stopped g c =
     let put = payload_of c.args.put in
-    stopped_as (λ e. StopsFile e (g.W.Sink.taken c.args.out.now) _) c.rewrite_webp.result (g.R.Source.left c.args.source.now) (webp_rewriting c.args.remove put) (rewriting_as c.args.format c.args.remove put)
+    stopped_as (λ e. StopsFile e (g.W.Sink.taken c.args.out.now) _) c.rewrite_webp.result (g.R.Source.left c.args.source.now) (webp_rewritten c.args.remove put) (rewriting_as c.args.format c.args.remove put)
     (webp_as c.args.format c.args.remove put (search rules)) c.rewrite_webp.ensures.stopped
 
 pub returns-in-Some-WebP-clause-named : goal.returns-in-Some-WebP-clause-named

@@ -1,0 +1,4 @@
+pub mod Pages
+pub mod Reports
+pub mod Rows
+pub mod Statuses

@@ -1,0 +1,34 @@
+-- What is reported of a run over a catalogue.
+use Rattle.std.specs.Prelude.{ℕ, Bool, if◌then◌else◌, List, [], ◌++◌, codes, Result, Ok, Err}
+use Rattle.std.specs.Fmt.{decimal}
+use Rattle.exif_catalog.specs.declared.errors.CatalogError.{CatalogError}
+use Rattle.exif_catalog.specs.declared.errors.CatalogError.TheVariants as catalog
+use Rattle.exif_catalog.specs.declared.errors.RunError.{RunError}
+use Rattle.exif_catalog.specs.declared.errors.RunError.TheVariants.{Catalog, Caller}
+use Rattle.exif_catalog.specs.declared.totals.Totals.{Totals}
+use Rattle.exif_decisions.specs.Escaping.{escaped_text}
+use Rattle.exif_session.specs.declared.session.Stop.{Stop}
+use Rattle.exif_session.specs.declared.session.Stop.TheVariants as stop
+
+-- What the files of the run say ends it, and so does memory that runs out; else the catalogue is
+-- refused.
+abbrev pub refusal_of : RunError Stop → Result CatalogError Stop
+refusal_of (Caller why) = Err why
+refusal_of (Catalog catalog.OutOfMemory) = Err stop.OutOfMemory
+refusal_of (Catalog error) = Ok error
+
+abbrev pub move_text : List ℕ → List ℕ → List ℕ
+move_text old new = codes "moved: " ++ (escaped_text old ++ (codes " -> " ++ escaped_text new))
+
+-- how many rows were moved, which only hashes show
+abbrev pub moved_text : ℕ → Bool → List ℕ
+moved_text moved has_hashes =
+    if has_hashes then codes ", " ++ (decimal moved ++ codes " moved") else []
+
+-- what a run did with the rows
+abbrev pub totals_text : Totals → Bool → List ℕ
+totals_text totals has_hashes =
+    (decimal totals.added ++ (codes " added, " ++ (decimal totals.changed ++ (codes " changed, "
+    ++ (decimal totals.unchanged ++ (codes " unchanged, " ++ (decimal totals.removed
+    ++ (codes " removed, " ++ (decimal totals.restored ++ codes " restored")))))))))
+    ++ moved_text totals.moved has_hashes

@@ -1,0 +1,113 @@
+//! What the row of a picture has, and which rows of pictures that were not seen stay.
+
+ghost use Rattle.std.specs.Prelude.{◌≡◌, ◌≢◌, ◌↔◌, ◌++◌, IfOk, IsTrue, OnOk, map, string_bytes};
+ghost use Rattle.std.specs.declared.io.ErrorKind.TheVariants.{NotFound};
+ghost use Rattle.sha2.specs.Sha256.{sha256};
+ghost use Rattle.exif_catalog_commands.specs.Rows.{any_below, hex_pair, hex_text, is_whole, known_stamp};
+
+use exif::Exif;
+use exif_catalog::{PictureFile, SqlValue, Stamp, is_below, row_values};
+use exif_formats::PictureFormat;
+use exif_json::mime_type;
+use exif_session::FileStamp;
+use sha2::{Digest, Sha256};
+use std::alloc::{AllocError, Global};
+use std::io::ErrorKind;
+
+/// What a file is, where all of that is known.
+pub fn known_stamp(stamp: FileStamp) -> Option<Stamp>
+    ensures { result ≡ known_stamp stamp }
+{
+    Some(Stamp {
+        size: stamp.size?,
+        modified: stamp.modified?,
+        modified_ns: stamp.modified_ns?,
+        changed: stamp.changed?,
+        changed_ns: stamp.changed_ns?,
+        device: stamp.device?,
+        inode: stamp.inode?,
+    })
+}
+
+/// Whether what is below a name is not known, by why it can't be followed: unless nothing has it.
+pub fn is_hidden(kind: ErrorKind) -> bool
+    ensures { IsTrue result ↔ (kind ≢ NotFound) }
+{
+    kind != ErrorKind::NotFound
+}
+
+/// Whether all that is below a root was looked through: the run has no conditions, since a picture
+/// that does not meet them is there all the same, and no name that could not be followed is below
+/// the root.
+pub fn is_whole(has_conditions: bool, failed: &[String], root: &str) -> bool
+    ensures { result ≡ is_whole has_conditions (map string_bytes failed.now) root.now }
+{
+    !has_conditions && !has_below(failed, root)
+}
+
+// Whether one of the paths is a root, or below it.
+fn has_below(paths: &[String], root: &str) -> bool
+    ensures { result ≡ any_below (map string_bytes paths.now) root.now }
+{
+    for path in paths {
+        if is_below(path.as_str(), root) {
+            return true;
+        }
+    }
+    false
+}
+
+/// The row of a picture by what is known of its file, and its Exif data, if it has some.
+pub fn row_for(
+    alloc: Global,
+    path: &[u8],
+    stamp: FileStamp,
+    hash: Option<&str>,
+    format: Option<PictureFormat>,
+    exif: Option<&Exif>,
+) -> Result<Vec<SqlValue>, AllocError> {
+    let (format, mime) = match format {
+        Some(format) => (Some(format.name()), Some(mime_type(format))),
+        None => (None, None),
+    };
+    let file = PictureFile {
+        path,
+        size: stamp.size,
+        modified: stamp.modified,
+        modified_ns: stamp.modified_ns,
+        changed: stamp.changed,
+        changed_ns: stamp.changed_ns,
+        device: stamp.device,
+        inode: stamp.inode,
+        hash,
+        format,
+        mime,
+    };
+    row_values(alloc, &file, exif)
+}
+
+/// The SHA-256 of bytes (FIPS 180-4), as hexadecimal digits.
+pub fn hash_of(alloc: Global, bytes: &[u8]) -> Result<String, AllocError>
+    ensures { IfOk result (λ text. string_bytes text ≡ hex_text (sha256 bytes.now)) }
+{
+    let digest = Sha256::digest(bytes);
+    hex_of(alloc, &digest)
+}
+
+// Bytes as hexadecimal digits.
+fn hex_of(alloc: Global, bytes: &[u8]) -> Result<String, AllocError>
+    ensures { IfOk result (λ text. string_bytes text ≡ hex_text bytes.now) }
+{
+    let mut text = String::new(alloc);
+    for byte in bytes {
+        push_pair(&mut text, *byte)?;
+    }
+    Ok(text)
+}
+
+// Adds the two hexadecimal digits of a byte.
+fn push_pair(text: &mut String, byte: u8) -> Result<(), AllocError>
+    ensures { OnOk result (string_bytes text.new ≡ string_bytes text.old ++ hex_pair byte) }
+{
+    write!(text, "{byte:02x}")
+}
