@@ -9,11 +9,12 @@ ghost use Rattle.exif_copy.specs.Copied.{copied, placed_shaped, shaped};
 ghost use Rattle.exif_copy.specs.Errors.{editing};
 ghost use Rattle.exif_copy.specs.declared.copying.Shape.TheVariants.{Target};
 
-use crate::found::{exif_found, format_for};
+use crate::found::exif_found;
 use crate::placing::placed;
 use crate::shaping::with_shape;
 use exif::{Error, Exif};
 use exif_change::{Changed, Refusal};
+use exif_formats::format_of_file;
 use std::alloc::Global;
 
 /// Which picture the copied data describe.
@@ -55,7 +56,7 @@ fn shaped_for(alloc: Global, exif: &Exif, to: &[u8]) -> Result<Vec<u8>, Refusal>
 fn copied_shaped(alloc: Global, exif: &Exif, to: &[u8], shape: Shape) -> Result<Changed, Refusal>
     ensures { Answers change_of result (placed_shaped shape to.now (contents_of exif.now)) }
 {
-    let format = format_for(to);
+    let format = format_of_file(to);
     match shape {
         Shape::Source => placed(alloc, format, exif.buf(), to),
         Shape::Target => {

@@ -9,12 +9,12 @@ ghost use Rattle.exif_copy.specs.Blocks.{container_for, no_container, packet_che
 ghost use Rattle.exif_copy.specs.Selected.{selected, with_color, with_packet};
 
 use crate::copying::{Shape, copy_exif};
-use crate::found::{exif_found, format_for};
+use crate::found::exif_found;
 use crate::placing::as_read;
 use crate::xmp_icc::{Container, profile_of, with_profile, with_xmp, xmp_of};
 use exif::Error;
 use exif_change::{Changed, Refusal};
-use exif_formats::PictureFormat;
+use exif_formats::{PictureFormat, format_of_file};
 use std::alloc::Global;
 
 /// What of a picture is copied.
@@ -32,7 +32,7 @@ pub struct Selection {
 fn container_for(file: &[u8]) -> Option<Container>
     ensures { result ≡ container_for file.now }
 {
-    match format_for(file) {
+    match format_of_file(file) {
         Some(PictureFormat::Jpeg) => Some(Container::Jpeg),
         Some(PictureFormat::Png) => Some(Container::Png),
         Some(PictureFormat::WebP) => Some(Container::WebP),

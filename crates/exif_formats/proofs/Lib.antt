@@ -1,4 +1,5 @@
 pub mod DataGiven
+pub mod HeldData
 pub mod Joined
 pub mod Begins
 pub mod PictureLaws

@@ -1,12 +1,12 @@
 //! The formats of pictures, and their signatures.
 
-ghost use Rattle.std.specs.Prelude.{◌≡◌};
+ghost use Rattle.std.specs.Prelude.{◌≡◌, take};
 ghost use Rattle.exif_formats.specs.Formats.{begins_jpeg_xl, begins_orf, begins_rw2, format_in, format_name, known_as, other_format_in};
 
 use crate::jxl::{is_codestream, is_jxl};
 use crate::raw::cr3::is_cr3;
 use crate::raw::raf::is_raf;
-use exif_containers::container::{self, Format};
+use exif_containers::container::{self, Format, SNIFF_LEN};
 use exif_containers::png::is_png;
 
 /// A format of pictures.
@@ -120,4 +120,11 @@ pub fn format_of(signature: &[u8]) -> Option<PictureFormat>
         Some(format) => Some(known_as(format)),
         None => other_format_of(signature),
     }
+}
+
+/// The format of a file in memory, by its first 4096 bytes.
+pub fn format_of_file(file: &[u8]) -> Option<PictureFormat>
+    ensures { result ≡ format_in (take 4096 file.now) }
+{
+    format_of(&file[..SNIFF_LEN.min(file.len())])
 }

@@ -7,6 +7,7 @@
 
 mod cr3;
 mod format;
+mod held;
 pub mod jxl;
 pub mod laws;
 mod magic;
@@ -14,6 +15,7 @@ mod options;
 mod picture;
 pub mod raw;
 
-pub use format::{PictureFormat, format_of};
+pub use format::{PictureFormat, format_of, format_of_file};
+pub use held::{jxl_data, png_data, raf_data};
 pub use options::Options;
 pub use picture::{Picture, read_bytes, read_picture};

@@ -11,7 +11,7 @@ ghost use Rattle.exif_formats.specs.Pictures.{ReadsAsFormat, ReadsPicture, as_re
 ghost use Rattle.exif_formats.specs.Failing.{has_io};
 
 use crate::cr3::read_cr3;
-use crate::format::{PictureFormat, format_of};
+use crate::format::{PictureFormat, format_of, format_of_file};
 use crate::jxl::get_exif_attr_from_jxl;
 use crate::magic::make_tiff;
 use crate::options::Options;
@@ -183,7 +183,7 @@ pub fn read_bytes(options: Options, alloc: Global, file: &[u8]) -> Picture
     match read_picture(options, alloc, &mut Counted::new(file)) {
         Ok(picture) => picture,
         Err(error) => Picture {
-            format: format_of(&file[..SNIFF_LEN.min(file.len())]),
+            format: format_of_file(file),
             answer: Err(error),
         },
     }

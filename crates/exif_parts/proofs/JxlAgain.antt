@@ -24,14 +24,14 @@ use Rattle.exif_parts.proofs.JxlReads.{Boxed, box_is_all, found, plain, read_aga
 use Rattle.exif_parts.proofs.JxlSteps.{boxes_over, boxes_step, with_first}
 
 -- the bytes of boxes that are kept
-abbrev bytes_from : ℕ → Remove → List ℕ → List ℕ → List ℕ
+abbrev pub bytes_from : ℕ → Remove → List ℕ → List ℕ → List ℕ
 bytes_from m remove boxes next = (boxes_filtered m remove boxes next).bytes
 
-none_more : (m : ℕ) (remove : Remove) (next : List ℕ) → bytes_from m remove [] next ≡ next
+pub none_more : (m : ℕ) (remove : Remove) (next : List ℕ) → bytes_from m remove [] next ≡ next
 none_more m remove next = ap (λ (w : Written). w.bytes) (boxes_over m remove next)
 
 -- where the first box has all bytes that are left, it is the last one
-one_box : (m : ℕ) (remove : Remove) (b : ℕ) (xs next : List ℕ) → (box_piece (b ∷ xs)).len ≡ length (b ∷ xs)
+pub one_box : (m : ℕ) (remove : Remove) (b : ℕ) (xs next : List ℕ) → (box_piece (b ∷ xs)).len ≡ length (b ∷ xs)
     → bytes_from (suc m) remove (b ∷ xs) next ≡ next ++ kept_box remove (box_piece (b ∷ xs)) (b ∷ xs)
 one_box m remove b xs next all =
     ap (λ (w : Written). w.bytes) (boxes_step m remove b xs next) ∙ by (is_cut_box (b ∷ xs))
@@ -178,7 +178,7 @@ enough (suc n) (suc m) remove (b ∷ xs) out h k =
 
 -- ---- the box of new data
 
-box_len : (payload : List ℕ) → length (exif_box payload) ≡ 12 + length payload
+pub box_len : (payload : List ℕ) → length (exif_box payload) ≡ 12 + length payload
 box_len payload = omega arith
 
 new_boxed : (payload tail : List ℕ) → length payload ≤ 4294967283 → Boxed (exif_box payload ++ tail) 8 (12 + length payload)
@@ -190,7 +190,7 @@ new_boxed payload tail h =
     (ne_eqb (12 + length payload) 0 (λ e. omega (arith, e))) (ne_eqb (12 + length payload) 1 (λ e. omega (arith, e)))
     (omega arith) (omega arith)
 
-new_piece : (payload tail : List ℕ) → length payload ≤ 4294967283 → box_piece (exif_box payload ++ tail) ≡ kind_box kind.Exif (12 + length payload) 12
+pub new_piece : (payload tail : List ℕ) → length payload ≤ 4294967283 → box_piece (exif_box payload ++ tail) ≡ kind_box kind.Exif (12 + length payload) 12
 new_piece payload tail h =
     (new_boxed payload tail h).piece
     ∙ ap (λ t. cond t (kind_box kind.Unknown (12 + length payload) 8) (kind_box kind.Exif (12 + length payload) 12)) (le-ltb (12 + length payload) 12 (omega arith))
@@ -229,10 +229,10 @@ typed xs e = by (bytes_eq (take 4 (drop 4 xs)) (codes "ftyp")) (is_cut_box xs) (
     by true true c ea eb ec h = absurd (cc)
     by false b c ea eb ec h = absurd (cc)
 
-abbrev front_of : Bool → List ℕ → ℕ
+abbrev pub front_of : Bool → List ℕ → ℕ
 front_of t xs = 12 + cond t (box_piece xs).len 0
 
-front_within : (file : List ℕ) → 12 ≤ length file → front_len file ≤ length file
+pub front_within : (file : List ℕ) → 12 ≤ length file → front_len file ≤ length file
 front_within file h = by (begins_typed (drop 12 file)) refl
   where
     by : (t : Bool) → begins_typed (drop 12 file) ≡ t → front_of t (drop 12 file) ≤ length file
@@ -275,7 +275,7 @@ front_again file r h other = by (begins_typed (drop 12 file)) refl
         ap (λ (l : List ℕ). front_of (begins_typed l) l) behind ∙ ap (λ t. front_of t zs) is ∙ ap (λ (p : Piece). 12 + p.len) again.piece
 
 -- where no data are put the box of the type is one of those that stay
-type_stays : (remove : Remove) (xs : List ℕ) → begins_typed xs ≡ true → box_stays remove (box_piece xs) (take (box_piece xs).len xs) ≡ true
+pub type_stays : (remove : Remove) (xs : List ℕ) → begins_typed xs ≡ true → box_stays remove (box_piece xs) (take (box_piece xs).len xs) ≡ true
 type_stays remove xs e =
     let y = typed xs e in
     let f = found xs y.whole y.first in
@@ -301,7 +301,7 @@ type_stays remove xs e =
     shown Exif box = refl
     shown Metadata box = refl
 
-none_put : (remove : Remove) (file : List ℕ) → 12 ≤ length file
+pub none_put : (remove : Remove) (file : List ℕ) → 12 ≤ length file
     → (with_box remove file []).bytes ≡ bytes_from (length (drop 12 file)) remove (drop 12 file) (take 12 file)
 none_put remove file h = by (begins_typed (drop 12 file)) refl
   where
@@ -338,11 +338,11 @@ none_put remove file h = by (begins_typed (drop 12 file)) refl
 
 -- ---- the file
 
-record Contained (remove : Remove) (file n : List ℕ) (new : Written) : Type 0 where
-  other : is_codestream file ≡ false
-  long : 12 ≤ length file
-  begins : is_jxl file ≡ true
-  is : with_box remove file n ≡ new
+pub record Contained (remove : Remove) (file n : List ℕ) (new : Written) : Type 0 where
+  pub other : is_codestream file ≡ false
+  pub long : 12 ≤ length file
+  pub begins : is_jxl file ≡ true
+  pub is : with_box remove file n ≡ new
 
 ok_is : (one out : Written) → ◌≡◌ {A = Result Written Refusal} (Ok one) (Ok out) → one ≡ out
 ok_is one out e = ap (λ r. written_in one r) e
@@ -351,7 +351,7 @@ ok_is one out e = ap (λ r. written_in one r) e
     written_in other (Ok new) = new
     written_in other (Err refusal) = other
 
-contained : (remove : Remove) (file n : List ℕ) (new : Written) → if_contained remove file n ≡ Ok new → Contained remove file n new
+pub contained : (remove : Remove) (file n : List ℕ) (new : Written) → if_contained remove file n ≡ Ok new → Contained remove file n new
 contained remove file n new e = by (is_codestream file) (ltb (length file) 12) (is_jxl file) refl refl refl e
   where
     by : (a b c : Bool) → is_codestream file ≡ a → ltb (length file) 12 ≡ b → is_jxl file ≡ c

@@ -4,6 +4,7 @@ pub mod Bareness
 pub mod FilterSteps
 pub mod Firsts
 pub mod JxlAgain
+pub mod JxlBareness
 pub mod JxlReads
 pub mod JxlSteps
 pub mod MarkerSegments

@@ -1,60 +1,78 @@
 -- A walk over the boxes of a JPEG XL file.
-use Rattle.std.proofs.Common.{◌≡◌, ◌<◌, ◌≤◌, ◌-◌, ℕ, zero, suc, List, [], ◌∷◌, length, drop, refl, ap, sym, ◌∙◌, subst, arith, length-drop}
-use Rattle.exif_pictures.specs.Codestreams.{next_box, stepped}
+use Rattle.std.proofs.Common.{◌≡◌, ◌<◌, ◌≤◌, ◌-◌, ℕ, zero, suc, Bool, true, false, cond, List, [], ◌∷◌, length, take, drop, refl, ap, sym, ◌∙◌, arith, length-drop}
+use Rattle.exif_inventory.specs.JxlPieces.{box_piece, is_cut_box}
+use Rattle.exif_pictures.specs.Codestreams.{cut_off, stepped, with_box}
 use Rattle.exif_pictures.specs.declared.codestream.Codestream.{Codestream}
-use Rattle.exif_pictures.specs.declared.codestream.Step.{Step}
 
--- what follows the first byte is shorter by that
-shorter : (m n : ℕ) (bytes : List ℕ) → length bytes ≤ n → length (drop m bytes) ≤ n
-shorter m n bytes h = let e : length (drop m bytes) ≡ length bytes - m = length-drop m bytes in omega arith
+-- what is found behind what is left is what is found of all
+pub record Walks (answer : Codestream) (bytes : List ℕ) (found : Codestream) : Type 0 where
+  pub n : ℕ
+  pub enough : length bytes ≤ n
+  pub same : stepped n found bytes ≡ answer
 
--- any bound that is large enough serves
-stepped_any : (n k : ℕ) (found : Codestream) (bytes : List ℕ) → length bytes ≤ n → length bytes ≤ k
-    → stepped n found bytes ≡ stepped k found bytes
+-- the start
+pub walks : (found : Codestream) (bytes : List ℕ) → Walks (stepped (length bytes) found bytes) bytes found
+walks found bytes = record { n = length bytes; enough = omega arith; same = refl }
+
+-- what is found behind the first box, and what follows it
+abbrev with_first : ℕ → List ℕ → ℕ → Bool → Codestream → Codestream
+with_first n bytes len cut next = cond cut (cut_off next) (stepped n next (drop len bytes))
+
+step : (n : ℕ) (found : Codestream) (b : ℕ) (bytes : List ℕ)
+    → stepped (suc n) found (b ∷ bytes)
+    ≡ with_first n (b ∷ bytes) (box_piece (b ∷ bytes)).len (is_cut_box (b ∷ bytes)) (with_box found (take (box_piece (b ∷ bytes)).len (b ∷ bytes)))
 unfolding stepped
-stepped_any zero zero found [] h l = refl
-stepped_any zero (suc k) found [] h l = refl
-stepped_any (suc n) zero found [] h l = refl
-stepped_any (suc n) (suc k) found [] h l = refl
-stepped_any zero k found (b ∷ bytes) h l = absurd (omega arith)
-stepped_any (suc n) zero found (b ∷ bytes) h l = absurd (omega arith)
-stepped_any (suc n) (suc k) found (b ∷ bytes) h l =
-    let next = next_box found (b ∷ bytes) in
-    stepped_any n k next.codestream (drop (next.len - 1) bytes)
-    (shorter (next.len - 1) n bytes (omega arith)) (shorter (next.len - 1) k bytes (omega arith))
+step n found b bytes = refl
 
--- the bytes behind a box
-behind_box : (b : ℕ) (bytes : List ℕ) (len : ℕ) → 0 < len → drop (len - 1) bytes ≡ drop len (b ∷ bytes)
-behind_box b bytes zero h = absurd (omega arith)
-behind_box b bytes (suc n) h = ap (λ k. drop k bytes) (omega arith)
-
--- one box
-one_on : (found : Codestream) (bytes : List ℕ) → 0 < length bytes → 0 < (next_box found bytes).len
-    → let next = next_box found bytes in
-    stepped (length bytes) found bytes
-    ≡ stepped (length (drop next.len bytes)) next.codestream (drop next.len bytes)
+over : (n : ℕ) (found : Codestream) → stepped n found [] ≡ found
 unfolding stepped
-one_on found [] h p = absurd (omega arith)
-one_on found (b ∷ bytes) h p =
-    let next = next_box found (b ∷ bytes) in
-    let rest = drop (next.len - 1) bytes in
-    let same : rest ≡ drop next.len (b ∷ bytes) = behind_box b bytes next.len p in
-    stepped_any (length bytes) (length rest) next.codestream rest (shorter (next.len - 1) (length bytes) bytes (omega arith)) (omega arith)
-    ∙ ap (λ bs. stepped (length bs) next.codestream bs) same
+over zero found = refl
+over (suc n) found = refl
 
--- one box more of a walk
-pub steps_on : (start : Codestream) (file : List ℕ) (found : Codestream) (bytes : List ℕ) (next : Step) (rest : List ℕ)
-    → stepped (length file) start file ≡ stepped (length bytes) found bytes
-    → 0 < length bytes → next ≡ next_box found bytes → 0 < next.len → rest ≡ drop next.len bytes
-    → stepped (length file) start file ≡ stepped (length rest) next.codestream rest
-steps_on start file found bytes next rest before some is positive r =
-    let one = one_on found bytes some (subst (λ (s : Step). 0 < s.len) is positive) in
-    let by_step = subst (λ (s : Step). stepped (length bytes) found bytes ≡ stepped (length (drop s.len bytes)) s.codestream (drop s.len bytes)) (sym is) one in
-    before ∙ subst (λ (bs : List ℕ). stepped (length bytes) found bytes ≡ stepped (length bs) next.codestream bs) (sym r) by_step
+-- the first box
+record Begun (answer : Codestream) (bytes : List ℕ) (found : Codestream) : Type 0 where
+  n : ℕ
+  enough : length bytes ≤ suc n
+  same : with_first n bytes (box_piece bytes).len (is_cut_box bytes) (with_box found (take (box_piece bytes).len bytes)) ≡ answer
 
--- the end of a walk
-pub steps_over : (n : ℕ) (found : Codestream) (bytes : List ℕ) → length bytes ≡ 0 → stepped n found bytes ≡ found
-unfolding stepped
-steps_over zero found [] h = refl
-steps_over (suc n) found [] h = refl
-steps_over n found (b ∷ bytes) h = absurd (omega arith)
+begun : (answer : Codestream) (bytes : List ℕ) (found : Codestream) (n : ℕ) → 0 < length bytes → length bytes ≤ n
+    → stepped n found bytes ≡ answer → Begun answer bytes found
+begun answer [] found n some h e = absurd (omega arith)
+begun answer (b ∷ bytes) found zero some h e = absurd (omega arith)
+begun answer (b ∷ bytes) found (suc n) some h e = record { n = n; enough = h; same = sym (step n found b bytes) ∙ e }
+
+-- the answer where no box is left
+pub walks_over : (answer : Codestream) (bytes : List ℕ) (found : Codestream) → Walks answer bytes found → length bytes ≡ 0 → answer ≡ found
+walks_over answer [] found w h = sym w.same ∙ over w.n found
+walks_over answer (b ∷ bytes) found w h = absurd (omega arith)
+
+-- it, by a box
+by_box : (answer : Codestream) (bytes : List ℕ) (found : Codestream) (len : ℕ) (next : Codestream) (cut : Bool) → (b : Begun answer bytes found)
+    → len ≡ (box_piece bytes).len → next ≡ with_box found (take len bytes) → cut ≡ is_cut_box bytes → answer ≡ with_first b.n bytes len cut next
+by_box answer bytes found len next cut b p o c =
+    sym b.same
+    ∙ ap (λ k. with_first b.n bytes k (is_cut_box bytes) (with_box found (take k bytes))) (sym p)
+    ∙ ap (λ t. with_first b.n bytes len t (with_box found (take len bytes))) (sym c)
+    ∙ ap (λ (f : Codestream). with_first b.n bytes len cut f) (sym o)
+
+-- the answer where the box is cut off
+pub walks_cut : (answer : Codestream) (bytes : List ℕ) (found : Codestream) (len : ℕ) (next : Codestream)
+    → Walks answer bytes found → 0 < length bytes → len ≡ (box_piece bytes).len → next ≡ with_box found (take len bytes) → is_cut_box bytes ≡ true
+    → answer ≡ cut_off next
+walks_cut answer bytes found len next w some p o c =
+    by_box answer bytes found len next true (begun answer bytes found w.n some w.enough w.same) p o (sym c)
+
+-- the next box
+pub walks_on : (answer : Codestream) (bytes : List ℕ) (found : Codestream) (len : ℕ) (rest : List ℕ) (next : Codestream)
+    → Walks answer bytes found → 0 < length bytes → len ≡ (box_piece bytes).len → 0 < len → next ≡ with_box found (take len bytes) → is_cut_box bytes ≡ false
+    → rest ≡ drop len bytes → Walks answer rest next
+walks_on answer bytes found len rest next w some p long o c d =
+    let b = begun answer bytes found w.n some w.enough w.same in
+    let enough : length bytes ≤ suc b.n = b.enough in
+    let short : length rest ≡ length bytes - len = ap length d ∙ length-drop len bytes in
+    let on = by_box answer bytes found len next false b p o (sym c) in
+    record {
+      n = b.n;
+      enough = omega arith;
+      same = ap (λ (l : List ℕ). stepped b.n next l) d ∙ sym on;
+    }

@@ -1,3 +1,1 @@
 pub mod CodestreamSteps
-pub mod PartSteps
-pub mod PngSteps

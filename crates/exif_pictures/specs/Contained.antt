@@ -1,13 +1,9 @@
 -- What becomes of a PNG or a JPEG XL file with values set: its Exif data are changed as a TIFF file
 -- is, and put into it again.
-use Rattle.std.specs.Prelude.{ℕ, List, [], ◌∷◌, Option, None, Some, Result, Ok, Err, if◌then◌else◌}
+use Rattle.std.specs.Prelude.{ℕ, List, [], ◌∷◌, Option, None, Some, Result, Ok, Err}
 use Rattle.exif_assign.specs.declared.assignment.Assignment.{Assignment}
 use Rattle.exif_datetime.specs.declared.shift.ClockShift.{ClockShift}
-use Rattle.exif_containers.specs.Container.{data_of}
-use Rattle.exif_formats.specs.Jxl.{begins_codestream, jxl_answer}
 use Rattle.exif_formats.specs.Pictures.{png_data}
-use Rattle.exif_parts.specs.Jxl.{jxl_rewritten, no_container}
-use Rattle.exif_parts.specs.Written.{Written}
 use Rattle.exif_segments.specs.declared.remove.Remove.TheVariants as remove
 use Rattle.exif_types.specs.Refusals as types
 use Rattle.exif_types.specs.Refusals.{not_found}
@@ -18,33 +14,21 @@ use Rattle.exif_change.specs.Refusals.{Why, as_read, reading, ◌>>=◌}
 use Rattle.exif_change.specs.Setting.{assigned_behind, set_file}
 use Rattle.exif_change.specs.Shifting.{shifted}
 use Rattle.exif_change.specs.declared.dates.Dates.{Dates}
-use Rattle.exif_pictures.specs.PngChanges.{rewritten}
+use Rattle.exif_pictures.specs.JxlChanges as jxl
+use Rattle.exif_pictures.specs.JxlChanges.{jxl_data}
+use Rattle.exif_pictures.specs.PngChanges as png
 use Rattle.exif_pictures.specs.declared.contained.Container.{Container}
 use Rattle.exif_pictures.specs.declared.contained.Container.TheVariants.{Png, Jxl}
 
--- the Exif data of a JPEG XL file; a codestream without a container has no place for any
-abbrev pub jxl_data : List ℕ → Result (List ℕ) types.Refusal
-jxl_data file =
-    if begins_codestream file then Err no_container else data_of (jxl_answer file)
-
--- those of a file in a container
+-- the Exif data of a file
 abbrev pub contained : Container → List ℕ → Result (List ℕ) types.Refusal
 contained Png file = png_data file
 contained Jxl file = jxl_data file
 
--- the bytes of a file that was written again
-abbrev pub bytes_of : Result Written types.Refusal → Result (List ℕ) types.Refusal
-bytes_of (Ok new) = Ok new.bytes
-bytes_of (Err refusal) = Err refusal
-
--- a JPEG XL file with these Exif data in place of its own
-abbrev pub jxl_made : List ℕ → List ℕ → Result (List ℕ) types.Refusal
-jxl_made file data' = bytes_of (jxl_rewritten remove.Exif (Some data') file)
-
 -- a file with these Exif data in place of its own
 abbrev pub put_data : Container → List ℕ → List ℕ → Result (List ℕ) Why
-put_data Png file data' = rewritten remove.Exif (Some data') file
-put_data Jxl file data' = as_read (jxl_made file data')
+put_data Png file data' = png.rewritten remove.Exif (Some data') file
+put_data Jxl file data' = jxl.rewritten remove.Exif (Some data') file
 
 -- the same with the answer of a change of its Exif data
 abbrev pub put_change : Container → List ℕ → Change → Result Change Why

@@ -1,5 +1,5 @@
-pub mod Boxes
 pub mod Codestreams
+pub mod JxlChanges
 pub mod PngChanges
 pub mod Contained
 pub mod Ways

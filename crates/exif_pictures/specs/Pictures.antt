@@ -19,10 +19,10 @@ use Rattle.exif_change.specs.declared.notes.Note.{Note}
 use Rattle.exif_change.specs.declared.notes.Note.TheVariants.{OwnRotation}
 use Rattle.exif_change.specs.declared.scrubbing.Removed.{Removed}
 use Rattle.exif_change.specs.declared.scrubbing.Removed.TheVariants as removed
-use Rattle.exif_pictures.specs.Boxes.{jxl_emptied}
 use Rattle.exif_pictures.specs.Codestreams.{codestream_of}
 use Rattle.exif_pictures.specs.OtherDates.{has_other_dates, leaves_dates, with_other_dates}
 use Rattle.exif_pictures.specs.Contained.{contained_set, contained_shifted}
+use Rattle.exif_pictures.specs.JxlChanges.{jxl_emptied}
 use Rattle.exif_pictures.specs.PngChanges.{png_emptied, png_unlocated}
 use Rattle.exif_pictures.specs.Rotation.{file_turned, if_turned, png_turned}
 use Rattle.exif_pictures.specs.Ways.{way_for}
@@ -53,8 +53,8 @@ jxl_unlocated unread file = elim (inventory file) [
 -- a JPEG XL file without what is removed; its picture keeps its own orientation
 abbrev pub jxl_without : Removed → List ℕ → Result Change Why
 jxl_without (removed.Gps unread) file = jxl_unlocated unread file
-jxl_without removed.Metadata file = Ok (jxl_emptied file)
-jxl_without removed.AllButOrientation file = Ok (jxl_emptied file)
+jxl_without removed.Metadata file = jxl_emptied file
+jxl_without removed.AllButOrientation file = jxl_emptied file
 
 -- a container without a codestream is refused
 abbrev pub no_codestream : Why

@@ -4,17 +4,14 @@
 ghost use Rattle.std.specs.Prelude.{◌≡◌, []};
 ghost use Rattle.std.specs.Option.{option_map};
 ghost use Rattle.exif_types.specs.Refusals.{Gives};
-ghost use Rattle.exif_containers.specs.Container.{data_of};
-ghost use Rattle.exif_formats.specs.Jxl.{jxl_answer};
 ghost use Rattle.exif_change.specs.Changed.{change_of};
 ghost use Rattle.exif_change.specs.Refusals.{Answers};
-ghost use Rattle.exif_pictures.specs.Contained.{contained, contained_set, contained_shifted, created, data_with, jxl_data, jxl_made, put_change, put_data, put_new};
+ghost use Rattle.exif_pictures.specs.Contained.{contained, contained_set, contained_shifted, created, data_with, put_change, put_data, put_new};
 
-use crate::png;
-use exif::{Counted, Error, Field};
+use crate::{jxl, png};
+use exif::{Error, Field};
 use exif_change::{Assignment, Changed, ClockShift, Dates, Refusal, assigned, new_data};
-use exif_formats::jxl::{get_exif_attr_from_jxl, is_codestream};
-use exif_parts::rewrite_jxl;
+use exif_formats::png_data;
 use exif_segments::Remove;
 use std::alloc::Global;
 
@@ -27,39 +24,14 @@ pub(crate) enum Container {
     Jxl,
 }
 
-// The Exif data of a JPEG XL file in its container.
-fn boxed_data(alloc: Global, file: &[u8]) -> Result<Vec<u8>, Error>
-    ensures { Gives (λ v. v.items) result (data_of (jxl_answer file.now)) }
-{
-    get_exif_attr_from_jxl(alloc, &mut Counted::new(file))
-}
-
-// The same, unless it is a codestream without a container.
-fn jxl_data(alloc: Global, file: &[u8]) -> Result<Vec<u8>, Error>
-    ensures { Gives (λ v. v.items) result (jxl_data file.now) }
-{
-    if is_codestream(file) {
-        return Err(Error::NotSupported("JPEG XL codestream without a container"));
-    }
-    boxed_data(alloc, file)
-}
-
 // The Exif data of a file.
 fn data_of(alloc: Global, container: Container, file: &[u8]) -> Result<Vec<u8>, Error>
     ensures { Gives (λ v. v.items) result (contained container file.now) }
 {
     match container {
-        Container::Png => png::data_of(alloc, file),
-        Container::Jxl => jxl_data(alloc, file),
+        Container::Png => png_data(alloc, file),
+        Container::Jxl => jxl::data_of(alloc, file),
     }
-}
-
-// A JPEG XL file with these Exif data in place of its own.
-fn jxl_made(alloc: Global, file: &[u8], exif: &[u8]) -> Result<Vec<u8>, Error>
-    ensures { Gives (λ v. v.items) result (jxl_made file.now exif.now) }
-{
-    let new = rewrite_jxl(alloc, file, Remove::Exif, Some(exif))?;
-    Ok(new.bytes)
 }
 
 // A file with these Exif data in place of its own.
@@ -73,10 +45,7 @@ fn put_data(
 {
     match container {
         Container::Png => png::rewritten(alloc, file, Some(exif), Remove::Exif),
-        Container::Jxl => match jxl_made(alloc, file, exif) {
-            Ok(new) => Ok(new),
-            Err(error) => Err(Refusal::Reading(error)),
-        },
+        Container::Jxl => jxl::rewritten(alloc, file, Some(exif), Remove::Exif),
     }
 }
 

@@ -60,7 +60,7 @@ fn jxl_without(alloc: Global, file: Vec<u8>, removed: Removed) -> Result<Changed
 {
     match removed {
         Removed::Gps(unread) => jxl_unlocated(alloc, file, unread),
-        Removed::Metadata | Removed::AllButOrientation => Ok(jxl::emptied(alloc, file)?),
+        Removed::Metadata | Removed::AllButOrientation => jxl::emptied(alloc, file),
     }
 }
 
@@ -94,10 +94,10 @@ fn jxl_scrubbed(alloc: Global, file: Vec<u8>, removed: Removed) -> Result<Change
 
 /// The picture without what is removed: [`exif_change::scrub`] for TIFF, JPEG, HEIF and WebP files.
 ///
-/// A PNG file is written again without the chunks that do not show the picture
-/// ([`exif_parts::rewrite_png`]). In a JPEG XL file they become free space; the picture keeps
-/// its own orientation. One that is cut off is changed as far as it goes, which is answered; one
-/// whose container has no codestream is refused. Where locations are erased no byte moves, and the
+/// PNG and JPEG XL files are written again without the chunks or boxes that do not show the
+/// picture ([`exif_parts::rewrite_png`], [`exif_parts::rewrite_jxl`]). The picture of a JPEG XL
+/// file keeps its own orientation. Such a file that is cut off is changed as far as it goes, which
+/// is answered; one whose container has no codestream is refused. Where locations are erased no byte moves, and the
 /// CRCs of the chunks that were changed are mended. Raw files are refused. It takes the memory of
 /// the file and of the new one.
 pub fn scrub(alloc: Global, file: Vec<u8>, removed: Removed) -> Result<Changed, Refusal>

@@ -5,10 +5,10 @@ ghost use Rattle.std.specs.Option.{option_map};
 ghost use Rattle.exif_change.specs.Reading.{file_contents};
 ghost use Rattle.exif_pictures.specs.Rotation.{file_turned, has_turned, if_turned, is_turned, png_turned};
 
-use crate::png::data_of;
 use exif::Error;
 use exif_change::{Note, Removed, read};
 use exif_containers::container::{Format, format_of};
+use exif_formats::png_data;
 use exif_summary::find_orientation;
 use std::alloc::{AllocError, Global};
 
@@ -47,7 +47,7 @@ pub(crate) fn file_turned(alloc: Global, file: &[u8]) -> Result<bool, AllocError
 pub(crate) fn png_turned(alloc: Global, file: &[u8]) -> Result<bool, AllocError>
     ensures { IfOk result (λ has. has ≡ png_turned file.now) }
 {
-    match data_of(alloc, file) {
+    match png_data(alloc, file) {
         Ok(exif) => has_turned(alloc, exif.as_slice()),
         Err(Error::OutOfMemory | Error::Io(_) | Error::PartialResult(_)) => Err(AllocError),
         Err(_no_data) => Ok(false),

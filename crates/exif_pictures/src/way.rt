@@ -3,8 +3,7 @@
 ghost use Rattle.std.specs.Prelude.{◌≡◌};
 ghost use Rattle.exif_pictures.specs.Ways.{way_for, way_of};
 
-use exif_containers::container::SNIFF_LEN;
-use exif_formats::{PictureFormat, format_of};
+use exif_formats::{PictureFormat, format_of_file};
 
 /// How the pictures of a format are changed.
 #[derive(Clone, Copy)]
@@ -13,7 +12,7 @@ pub(crate) enum Way {
     Known,
     /// By chunks.
     Png,
-    /// By boxes, in place.
+    /// By boxes.
     Jxl,
     /// Not at all.
     Raw,
@@ -38,5 +37,5 @@ fn way_of(format: Option<PictureFormat>) -> Way
 pub(crate) fn way_for(file: &[u8]) -> Way
     ensures { result ≡ way_for file.now }
 {
-    way_of(format_of(&file[..SNIFF_LEN.min(file.len())]))
+    way_of(format_of_file(file))
 }

@@ -6,7 +6,7 @@ use Rattle.exif_formats.proofs.Begins.{front_taken}
 use Rattle.exif_formats.proofs.picture.read_bytes.Goals as goal
 
 pub returns-in-Err-clause-format : goal.returns-in-Err-clause-format
-returns-in-Err-clause-format c = c.format_of.ensures ∙ ap format_in (front_taken c.args.file.now c.min.result c.min.ensures)
+returns-in-Err-clause-format c = c.format_of_file.ensures
 
 pub returns-in-Err-clause-reads : goal.returns-in-Err-clause-reads
 returns-in-Err-clause-reads c =

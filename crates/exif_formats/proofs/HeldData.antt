@@ -1,12 +1,13 @@
--- What the calls on PNG and JPEG XL files answer, from their clauses.
-use Rattle.std.proofs.Common.{◌≡◌, ℕ, ◌-◌, ◌^◌, List, Option, None, Some, Result, Ok, Err, Vec, Global, IfOk, IfErr, MatchOption, ap, subst}
-use Rattle.exif_formats.specs.Jxl.{jxl_answer}
-use Rattle.exif_formats.specs.Pictures.{png_data}
-use Rattle.exif_containers.specs.Png.{png_answer}
-use Rattle.exif_containers.specs.Container.{data_of}
-use Rattle.exif_segments.specs.Answer.{Answer, found}
+-- What the calls that find Exif data answer of files in memory, from their clauses.
+use Rattle.std.proofs.Common.{◌≡◌, ℕ, ◌-◌, ◌^◌, List, ◌++◌, Option, None, Some, Result, Ok, Err, Vec, Global, IfOk, IfErr, MatchOption, ap, subst}
 use Rattle.exif_types.specs.Failures.{Failure}
 use Rattle.exif_types.specs.Refusals.{Fails, Gives, IsInterrupted, Refusal, refusal_of}
+use Rattle.exif_segments.specs.Answer.{Answer, found}
+use Rattle.exif_containers.specs.Container.{data_of}
+use Rattle.exif_containers.specs.Png.{png_answer}
+use Rattle.exif_formats.specs.Jxl.{jxl_answer}
+use Rattle.exif_formats.specs.Raf.{behind_limit, raf_answer}
+use Rattle.exif_formats.specs.Pictures.{png_data}
 
 abbrev pub items_of : Vec ℕ Global → List ℕ
 items_of v = v.items
@@ -32,7 +33,7 @@ unfolding png_data
 gives_png result xs ys file f r e =
     subst (λ (bytes : List ℕ). Gives items_of result (png_data bytes)) e (gives_by (png_answer (2 ^ 64 - 1)) result xs ys f r)
 
--- the same of a JPEG XL file
+-- of a JPEG XL file
 pub gives_jxl : (result : Result (Vec ℕ Global) Failure) (xs ys file : List ℕ)
     → IfOk result (λ v. jxl_answer xs ≡ found v.items ys)
     → IfErr result (λ e. Fails e (jxl_answer xs))
@@ -40,3 +41,20 @@ pub gives_jxl : (result : Result (Vec ℕ Global) Failure) (xs ys file : List �
     → Gives items_of result (data_of (jxl_answer file))
 gives_jxl result xs ys file f r e =
     subst (λ (bytes : List ℕ). Gives items_of result (data_of (jxl_answer bytes))) e (gives_by jxl_answer result xs ys f r)
+
+-- the data of a raw file of Fujifilm, whatever follows them
+raf_by : (result : Result (Vec ℕ Global) Failure) (xs ys : List ℕ)
+    → IfOk result (λ v. (rest : List ℕ) × (raf_answer xs ≡ found v.items rest) × (ys ≡ rest ++ behind_limit xs))
+    → IfErr result (λ e. Fails e (raf_answer xs))
+    → Gives items_of result (data_of (raf_answer xs))
+raf_by (Ok v) xs ys f r = ap data_of f.1
+raf_by (Err x) xs ys f r = fails_data (refusal_of x) (IsInterrupted x) (raf_answer xs) r
+
+-- of such a file
+pub gives_raf : (result : Result (Vec ℕ Global) Failure) (xs ys file : List ℕ)
+    → IfOk result (λ v. (rest : List ℕ) × (raf_answer xs ≡ found v.items rest) × (ys ≡ rest ++ behind_limit xs))
+    → IfErr result (λ e. Fails e (raf_answer xs))
+    → xs ≡ file
+    → Gives items_of result (data_of (raf_answer file))
+gives_raf result xs ys file f r e =
+    subst (λ (bytes : List ℕ). Gives items_of result (data_of (raf_answer bytes))) e (raf_by result xs ys f r)

@@ -1,6 +1,6 @@
 use Rattle.std.proofs.Common.{ap}
-use Rattle.exif_copy.proofs.FoundSteps.{gives_png}
-use Rattle.exif_copy.proofs.found.png_data.Goals as goal
+use Rattle.exif_formats.proofs.HeldData.{gives_png}
+use Rattle.exif_formats.proofs.held.png_data.Goals as goal
 
 pub returns : goal.returns
 returns c =

@@ -1,6 +1,6 @@
 use Rattle.std.proofs.Common.{ap}
-use Rattle.exif_copy.proofs.FoundSteps.{gives_jxl}
-use Rattle.exif_copy.proofs.found.jxl_data.Goals as goal
+use Rattle.exif_formats.proofs.HeldData.{gives_jxl}
+use Rattle.exif_formats.proofs.held.jxl_data.Goals as goal
 
 pub returns : goal.returns
 returns c =
