@@ -1,1 +1,2 @@
+pub mod ReadableLemmas
 pub mod SummaryLemmas

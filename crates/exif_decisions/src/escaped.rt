@@ -1,8 +1,10 @@
 //! Names and values as they are printed for people.
 
-ghost use Rattle.std.specs.Prelude.{◌≡◌, Some};
+ghost use Rattle.std.specs.Prelude.{◌≡◌, IfOk, Some, drop, string_bytes, take};
 ghost use Rattle.std.specs.Fmt.{WritesOnOk};
-ghost use Rattle.exif_decisions.specs.Escaping.{escaped_char, escaped_other, escaped_text};
+ghost use Rattle.std.specs.Str.{IsUtf8};
+ghost use Rattle.std.specs.Str.Lossy.{utf8_valid_len};
+ghost use Rattle.exif_decisions.specs.Escaping.{escaped_char, escaped_other, escaped_text, marked, marked_first, readable};
 ghost use Rattle.exif_decisions.specs.Rules.{is_unreadable};
 
 use std::alloc::{AllocError, Global};
@@ -57,29 +59,60 @@ fn write_other<W: fmt::Write>(f: &mut fmt::Formatter<W>, c: char) -> fmt::Result
 
 /// A name as text. A byte that is no UTF-8 becomes a zero character and its two hexadecimal digits:
 /// no file has such a name, so that none is opened by it, and [`Escaped`] prints it as `\xff`.
-pub fn readable(alloc: Global, name: &[u8]) -> Result<String, AllocError> {
+pub fn readable(alloc: Global, name: &[u8]) -> Result<String, AllocError>
+    ensures text { IfOk result (λ text. string_bytes text ≡ readable name.now) }
+    ensures utf8 { IsUtf8 name.now → IfOk result (λ text. string_bytes text ≡ name.now) }
+{
     let mut text = String::with_capacity(alloc, name.len())?;
     let mut rest = name;
-    for _ in 0..=name.len() {
-        match std::str::from_utf8(rest) {
-            Ok(valid) => {
-                text.push_str(valid)?;
-                break;
-            }
-            Err(error) => {
-                let (valid, invalid) = rest.split_at(error.valid_up_to());
-                if let Ok(valid) = std::str::from_utf8(valid) {
-                    text.push_str(valid)?;
-                }
-                let Some((byte, others)) = invalid.split_first() else {
-                    break;
-                };
-                write!(text, "\0{byte:02x}")?;
-                rest = others;
-            }
-        }
+    while !rest.is_empty() {
+        let (front, behind) = front_of(rest);
+        text.push_str(front)?;
+        text.push_str(marked_first(alloc, behind)?.as_str())?;
+        rest = without_first(behind);
     }
     Ok(text)
+}
+
+// The longest front of bytes that is UTF-8, and what is behind it.
+fn front_of(bytes: &[u8]) -> (&str, &[u8])
+    ensures front { result.0.now ≡ take (utf8_valid_len bytes.now) bytes.now }
+    ensures behind { result.1.now ≡ drop (utf8_valid_len bytes.now) bytes.now }
+{
+    match std::str::from_utf8(bytes) {
+        Ok(text) => (text, &[]),
+        Err(error) => {
+            let (front, behind) = bytes.split_at(error.valid_up_to());
+            (std::str::from_utf8(front).unwrap_or(""), behind)
+        }
+    }
+}
+
+// Bytes without the first, if there is one.
+fn without_first(bytes: &[u8]) -> &[u8]
+    ensures { result.now ≡ drop 1 bytes.now }
+{
+    match bytes.split_first() {
+        Some((_first, others)) => others,
+        None => &[],
+    }
+}
+
+// The first of bytes as `readable` writes it where it is no UTF-8; nothing where there is none.
+fn marked_first(alloc: Global, bytes: &[u8]) -> Result<String, AllocError>
+    ensures { IfOk result (λ text. string_bytes text ≡ marked_first bytes.now) }
+{
+    match bytes.first() {
+        Some(byte) => marked(alloc, *byte),
+        None => Ok(String::new(alloc)),
+    }
+}
+
+// A byte as `readable` writes it where it is no UTF-8.
+fn marked(alloc: Global, byte: u8) -> Result<String, AllocError>
+    ensures { IfOk result (λ text. string_bytes text ≡ marked byte) }
+{
+    format!(in alloc; "\0{byte:02x}")
 }
 
 /// Whether a name is one that [`readable`] made of bytes that are no UTF-8.

@@ -9,6 +9,7 @@ mod faults;
 mod formats;
 mod found;
 mod mistake;
+mod names;
 mod outcome;
 mod paths;
 mod rules;
@@ -27,6 +28,7 @@ pub use mistake::{
     Aim, Fact, Mistake, change_aim, fact_named, files_mistake, is_given, thumbnail_aim,
     undo_mistake,
 };
+pub use names::names_listed;
 pub use outcome::Outcome;
 pub use paths::{is_inside, name_of, slash_after};
 pub use rules::{

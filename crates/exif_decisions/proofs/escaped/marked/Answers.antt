@@ -1,0 +1,7 @@
+use Rattle.std.proofs.Common.{arith}
+use Rattle.std.proofs.lemmas.Fmt.{hex_byte}
+use Rattle.std.proofs.lemmas.Grind.{common_steps}
+use Rattle.exif_decisions.proofs.escaped.marked.Goals as goal
+
+pub returns : goal.returns
+returns c = grind (arith, common_steps, hex_byte)
