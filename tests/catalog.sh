@@ -28,6 +28,11 @@ $here/many/sample.jpg"
 is "the sample has its date and camera" "SELECT model, date_taken, orientation FROM picture WHERE path = '$here/many/sample.jpg'" "Pinhole 2	2024-05-01T12:30:00.25+10:00	6"
 gives "again nothing has changed" 0 "$mexaldor" catalog -r db many
 says "and nothing is read" "0 added, 0 changed, 3 unchanged, 0 removed, 0 restored"
+if has strace; then
+    strace -f -o trace -e trace=open,openat,openat2 "$mexaldor" catalog -r db many >out 2>err
+    check "the folders are looked through" grep -qF many/inner trace
+    check "files with the stamps of their rows are not opened" sh -c '! grep -qE "(sample|plain)[.]jpg|whole[.]webp" trace'
+fi
 "$mexaldor" set -q -i many/sample.jpg Artist=Somebody 2>/dev/null
 touch -d '2030-01-01' many/sample.jpg
 rm many/plain.jpg

@@ -314,6 +314,9 @@ cp files/whole.jpg work/left/.mexaldor-0
 cp files/whole.jpg work/left/.mexaldor-1
 cp files/whole.jpg work/left/.mexaldor-old
 ln -s a.jpg work/left/.mexaldor-2
+mkdir work/named
+cp files/whole.jpg work/named/a.jpg
+cp files/whole.jpg work/named/.mexaldor-1
 sleep 4
 gives "a run that only reads" 0 "$mexaldor" json -r work/left
 says "names a temporary file" "work/left/.mexaldor-0: a temporary file; a run that changes files removes it"
@@ -330,6 +333,11 @@ says "and leaves one that a run writes" "work/left/.mexaldor-1: a temporary file
 check "so it is there" cmp files/whole.jpg work/left/.mexaldor-1
 check "other names are not its own" cmp files/whole.jpg work/left/.mexaldor-old
 check "nor are links" test -L work/left/.mexaldor-2
+"$mexaldor" json work/named/a.jpg >out 2>err
+check "a file that is named is read, and nothing is removed beside it" cmp files/whole.jpg work/named/.mexaldor-1
+gives "a file that is named is changed" 0 "$mexaldor" set -i work/named/a.jpg Orientation=1
+says "and what was left beside it is removed" "work/named/.mexaldor-1: a temporary file of an interrupted run; it was removed"
+check "so it is gone, too" test ! -e work/named/.mexaldor-1
 
 # names that are no UTF-8, control characters
 fresh

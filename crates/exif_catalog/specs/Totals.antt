@@ -1,5 +1,5 @@
 -- What a run did with the rows.
-use Rattle.std.specs.Prelude.{ℕ, ◌+◌, ◌-◌, ◌^◌, min, Bool, true, false}
+use Rattle.std.specs.Prelude.{ℕ, ◌+◌, ◌-◌, ◌^◌, min, Bool, true, false, Option, Some, None}
 use Rattle.exif_catalog.specs.declared.totals.Outcome.{Outcome}
 use Rattle.exif_catalog.specs.declared.totals.Outcome.TheVariants as outcome
 use Rattle.exif_catalog.specs.declared.totals.Totals.{Totals}
@@ -15,6 +15,11 @@ is_unchanged outcome.Unchanged = true
 is_unchanged outcome.Added = false
 is_unchanged outcome.Changed = false
 is_unchanged outcome.Refused = false
+
+-- the same of a file that may be no picture
+abbrev pub is_kept : Option Outcome → Bool
+is_kept None = false
+is_kept (Some it) = is_unchanged it
 
 -- one more, up to the greatest number of 64 bits
 abbrev pub more : ℕ → ℕ

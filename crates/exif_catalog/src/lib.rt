@@ -29,6 +29,6 @@ pub use laws::columns_take_values;
 pub use moving::{Hashed, Moved, moves_of};
 pub use schema::{VERSION, create_text, insert_text};
 pub use totals::{Outcome, Totals};
-pub use updating::{Found, Pictures, Updated, update};
+pub use updating::{FileRow, Found, Pictures, Updated, update};
 pub use values::{PictureFile, SqlValue, row_values, text_of};
 pub use visiting::{PictureRow, Visitor, visit};

@@ -1,8 +1,8 @@
 //! A run over a catalogue, from its first picture to its end.
 
-ghost use Rattle.std.specs.Prelude.{◌≡◌, ◌&&◌, ℕ, List, [], false, nat_lt, All, Contains, IfOk, OnErr, OnOk, string_bytes};
+ghost use Rattle.std.specs.Prelude.{◌≡◌, ◌&&◌, ℕ, List, [], false, nat_lt, All, Contains, IfOk, IfSome, None, OnErr, string_bytes};
 ghost use Rattle.exif_catalog.specs.Runs.{has_stamp_of, known_after, known_at, marks_in, moved_times};
-ghost use Rattle.exif_catalog.specs.Totals.{is_unchanged};
+ghost use Rattle.exif_catalog.specs.Totals.{is_kept};
 
 use crate::catalog::Catalog;
 use crate::database::{Job, commit};
@@ -16,13 +16,25 @@ use crate::values::SqlValue;
 use sqlite::{Alter, Connection};
 use std::alloc::{AllocError, Global};
 
-/// A picture that a run found.
+/// A file that a run found, and that may be a picture.
 #[derive(Drop)]
 pub struct Found {
     /// The text of its path, as [`text_of`](crate::text_of) has it.
     pub path: String,
     /// What its file was before it was read, if all of that is known.
     pub stamp: Option<Stamp>,
+}
+
+/// What a file has for its row.
+#[derive(Drop)]
+pub enum FileRow {
+    /// The values of [`row_values`](crate::row_values).
+    Values(Vec<SqlValue>),
+    /// None since it can't be read: a row that it has stays as it is.
+    Unreadable,
+    /// None since it is no picture, or none that is asked for: a row that it has is that of a file
+    /// that is gone.
+    NoPicture,
 }
 
 /// What a run did.
@@ -34,53 +46,58 @@ pub struct Updated {
     pub moves: Vec<Move>,
 }
 
-/// The pictures of a run.
+/// The files of a run.
 pub trait Pictures {
-    /// Why the run is to end before the last picture.
+    /// Why the run is to end before the last file.
     type Error: Drop;
 
-    /// The next picture, or `None` behind the last.
+    /// The next file that may be a picture, or `None` behind the last. It need not be opened: where
+    /// its stamp is that of its row, it is a picture, and nothing more is asked of it.
     fn next(&mut self) -> Result<Option<Found>, Self::Error>;
 
     /// Whether rows are to have the hash of their file's bytes.
     fn needs_hash(&self) -> bool;
 
-    /// The values of [`row_values`](crate::row_values) of the picture that `next` gave last. It is
-    /// asked only where the picture has no row, its file has not the stamp of the row, or the row
-    /// lacks a hash that is needed.
-    /// `None` where the picture cannot be read: a row that it has stays as it is.
-    fn values(&mut self) -> Result<Option<Vec<SqlValue>>, Self::Error>;
+    /// What the file that `next` gave last has for its row. It is asked only where the file has no
+    /// row, or not the stamp of the row, or the row lacks a hash that is needed.
+    fn row(&mut self) -> Result<FileRow, Self::Error>;
 
-    /// Whether all that is below a root was looked through, asked behind the last picture. Where it
+    /// Whether all that is below a root was looked through, asked behind the last file. Where it
     /// was not, as where a folder could not be read, no row below the root is marked as removed.
     fn is_whole(&self, root: &str) -> bool;
 }
 
-// Brings the row of a picture up to date.
+// Brings the row of a file up to date. None where it is no picture: then nothing changes.
 fn take<S: Alter, P: Pictures>(
     alloc: Global,
     database: &mut Connection<S>,
     catalog: &mut Catalog,
     pictures: &mut P,
     found: &Found,
-) -> Result<Outcome, RunError<P::Error>>
-    ensures seen { OnOk result ((q : List ℕ) → known_at catalog.new q
-        ≡ known_after catalog.old (string_bytes found.now.path) q) }
-    ensures kept { IfOk result (λ outcome. is_unchanged outcome
+) -> Result<Option<Outcome>, RunError<P::Error>>
+    ensures seen { IfOk result (λ outcome. IfSome outcome (λ _. (q : List ℕ)
+        → known_at catalog.new q
+        ≡ known_after catalog.old (string_bytes found.now.path) q)) }
+    ensures kept { IfOk result (λ outcome. is_kept outcome
         ≡ has_stamp_of (known_at catalog.old (string_bytes found.now.path)) found.now.stamp) }
+    ensures other { IfOk result (λ outcome. outcome ≡ None → catalog.new ≡ catalog.old) }
     ensures failed { OnErr result (catalog.new ≡ catalog.old) }
 {
     let path = found.path.as_str();
     if catalog.is_unchanged(path, found.stamp) {
         catalog.keep(path);
-        return Ok(Outcome::Unchanged);
+        return Ok(Some(Outcome::Unchanged));
     }
-    match pictures.values().map_err(RunError::Caller)? {
-        Some(values) => Ok(catalog.put(alloc, database, path, values.as_slice())?),
-        None => {
-            catalog.keep(path);
-            Ok(Outcome::Refused)
+    match pictures.row().map_err(RunError::Caller)? {
+        FileRow::Values(values) => {
+            let outcome = catalog.put(alloc, database, path, values.as_slice())?;
+            Ok(Some(outcome))
         }
+        FileRow::Unreadable => {
+            catalog.keep(path);
+            Ok(Some(Outcome::Refused))
+        }
+        FileRow::NoPicture => Ok(None),
     }
 }
 
@@ -149,8 +166,9 @@ fn take_all<S: Alter, P: Pictures>(
         let Some(found) = pictures.next().map_err(RunError::Caller)? else {
             break;
         };
-        let outcome = take(alloc, database, &mut catalog, pictures, &found)?;
-        totals = totals.counted(outcome);
+        if let Some(outcome) = take(alloc, database, &mut catalog, pictures, &found)? {
+            totals = totals.counted(outcome);
+        }
     }
     let whole = whole_roots(alloc, roots, pictures)?;
     Ok(end(
@@ -163,7 +181,7 @@ fn take_all<S: Alter, P: Pictures>(
     )?)
 }
 
-// The pictures of a run, and what was looked through for them.
+// The files of a run, and what was looked through for them.
 #[derive(Drop)]
 struct UpdateJob<'u, P> {
     roots: &'u [&'u str],

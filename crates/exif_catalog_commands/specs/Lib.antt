@@ -1,4 +1,3 @@
 pub mod Pages
 pub mod Reports
 pub mod Rows
-pub mod Statuses

@@ -12,6 +12,8 @@ use Rattle.exif_thumbnails.specs.declared.heif.Coding.{Coding}
 use Rattle.exif_thumbnails.specs.declared.heif.Coding.TheVariants as coding
 use Rattle.exif_thumbnails.specs.declared.reading.Thumbnail.{Thumbnail}
 use Rattle.exif_thumbnails.specs.declared.reading.Thumbnail.TheVariants.{Jpeg, TooLong, CutOff, Item}
+use Rattle.exif_types.specs.Failures.{Failure}
+use Rattle.exif_types.specs.declared.error.Error.TheVariants as error
 use Rattle.exif_catalog_commands.specs.declared.page.LastSection.{LastSection}
 use Rattle.exif_catalog_commands.specs.declared.page.LastSection.TheVariants as last
 
@@ -64,3 +66,17 @@ shown (Some TooLong) = Err (codes "Thumbnail not shown: longer than 1 MiB")
 shown (Some CutOff) = Err (codes "Thumbnail not shown: cut off")
 shown (Some (Item coded)) = Err (item_line coded)
 shown None = Err (codes "No thumbnail")
+
+-- the thumbnail of a picture of which this was read, or why the picture could not be read; one
+-- without Exif data has none
+abbrev pub found_in : Result (Option Thumbnail) Failure → Result (Option Thumbnail) Failure
+found_in (Ok found) = Ok found
+found_in (Err (error.NotFound what)) = Ok None
+found_in (Err (error.InvalidFormat text)) = Err (error.InvalidFormat text)
+found_in (Err (error.Io cause)) = Err (error.Io cause)
+found_in (Err (error.BlankValue text)) = Err (error.BlankValue text)
+found_in (Err (error.TooBig text)) = Err (error.TooBig text)
+found_in (Err (error.NotSupported text)) = Err (error.NotSupported text)
+found_in (Err (error.UnexpectedValue text)) = Err (error.UnexpectedValue text)
+found_in (Err (error.PartialResult partial)) = Err (error.PartialResult partial)
+found_in (Err error.OutOfMemory) = Err error.OutOfMemory

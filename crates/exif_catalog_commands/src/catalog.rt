@@ -1,22 +1,22 @@
 //! A catalogue that is brought up to date.
 
-ghost use Rattle.std.specs.Prelude.{◌≡◌, IfNone, IfOk, IfSome, None, Some, map, string_bytes};
-ghost use Rattle.exif_decisions.specs.Outcomes.{outcome_with};
-ghost use Rattle.exif_decisions.specs.declared.outcome.Outcome.TheVariants.{Done, Refused};
-ghost use Rattle.exif_catalog_commands.specs.Rows.{is_whole, known_stamp};
-ghost use Rattle.exif_catalog_commands.specs.Statuses.{IsStatus};
+ghost use Rattle.std.specs.Prelude.{◌≡◌, false, true, length, IfOk, IfSome, None, Some, map, option_map, string_bytes};
+ghost use Rattle.exif_decisions.specs.declared.outcome.Outcome.TheVariants.{Done};
+ghost use Rattle.exif_catalog.specs.Values.{stored};
+ghost use Rattle.exif_catalog_commands.specs.Rows.{is_whole, known_stamp, outcome_by, row_for};
+ghost use Rattle.exif_session.specs.Statuses.{IsStatus};
 
-use crate::reports::{move_text, refusal_of, totals_text};
+use crate::reports::{move_text, refusal_of, reported_moves, reported_totals};
 use crate::rows::{hash_of, is_hidden, is_whole, known_stamp, row_for};
 use exif::{Error, Exif, Sink};
-use exif_catalog::{Found, Move, Pictures, RunError, SqlValue, Totals, Updated, text_of, update};
+use exif_catalog::{
+    FileRow, Found, Move, Pictures, RunError, SqlValue, Totals, Updated, text_of, update,
+};
 use exif_decisions::{self as decisions, Outcome};
 use exif_formats::{Picture, PictureFormat};
+use exif_inputs::{FileStamp, Input, Next, open, read, read_file, stamp_of};
 use exif_report::found_of;
-use exif_session::{
-    Cataloguing, FileStamp, Input, Next, Request, Session, Stop, absolute_of, open, read,
-    read_file, stamp_of,
-};
+use exif_session::{Cataloguing, Request, Session, Stop, absolute_of};
 use std::alloc::{AllocError, Global};
 use std::collections::BTreeSet;
 use std::io;
@@ -33,6 +33,8 @@ struct Gathered<'s, 'r, 'a, 'd, 'c, W, E> {
     // the paths of all that were given
     seen: BTreeSet<String>,
     stamp: FileStamp,
+    // whether it was found in a folder, and was not looked at
+    is_unseen: bool,
     // how many faults were skipped in it
     faults: usize,
     // what became of it, where there is one
@@ -71,12 +73,27 @@ impl<W: Sink, E: Sink> Gathered<'_, '_, '_, '_, '_, W, E> {
         Ok(())
     }
 
+    // The next file. It is opened only where there are conditions: else its stamp may be that of
+    // its row.
+    fn next_file(&mut self) -> Result<Option<Next>, Stop>
+        ensures none { IfOk result (λ next. next ≡ None
+            → length self.new.session.now.pending.waiting.items ≡ 0) }
+    {
+        if self.has_conditions {
+            self.session.next_chosen()
+        } else {
+            self.session.next_waiting()
+        }
+    }
+
     // Begins with a picture. One that was there before, by whatever path, is not given again.
-    fn begin_picture(&mut self, shown: String) -> Result<Option<Found>, Stop>
+    fn begin_picture(&mut self, shown: String, is_unseen: bool) -> Result<Option<Found>, Stop>
         ensures stamp { IfOk result (λ found. IfSome found
             (λ found. found.stamp ≡ known_stamp self.new.stamp)) }
         ensures begun { IfOk result (λ found. IfSome found (λ found.
             (self.new.outcome ≡ Some Done) × (self.new.faults ≡ 0))) }
+        ensures unseen { IfOk result (λ found. IfSome found
+            (λ found. self.new.is_unseen ≡ is_unseen)) }
     {
         let rt = self.session.rt;
         let path = absolute_of(rt, shown.as_str())?;
@@ -84,6 +101,7 @@ impl<W: Sink, E: Sink> Gathered<'_, '_, '_, '_, '_, W, E> {
             return Ok(None);
         }
         self.stamp = stamp_of(rt, path.as_str());
+        self.is_unseen = is_unseen;
         self.faults = 0;
         self.outcome = Some(Outcome::Done);
         let found = Found {
@@ -95,13 +113,37 @@ impl<W: Sink, E: Sink> Gathered<'_, '_, '_, '_, '_, W, E> {
         Ok(Some(found))
     }
 
+    // Whether the file that was given last is a picture, by its first bytes where they were not
+    // looked at; one that is none is skipped.
+    fn is_picture(&mut self) -> Result<bool, Stop>
+        ensures seen { self.old.is_unseen ≡ false → IfOk result (λ is. is ≡ true) }
+    {
+        if !self.is_unseen {
+            return Ok(true);
+        }
+        let path = self.shown.clone()?;
+        match self.session.chosen(Next::Found(path))? {
+            Some(Next::Beside(path, why)) => {
+                let found = decisions::Found::NotRead(why);
+                self.session.skip(path.as_str(), found)?;
+                Ok(false)
+            }
+            Some(_) => Ok(true),
+            None => Ok(false),
+        }
+    }
+
     // The row of the picture by its Exif data, if it has some.
     fn row_of(
         &self,
         format: Option<PictureFormat>,
         exif: Option<&Exif>,
         hash: Option<&str>,
-    ) -> Result<Vec<SqlValue>, AllocError> {
+    ) -> Result<Vec<SqlValue>, AllocError>
+        ensures { IfOk result (λ row. map stored row.items ≡ row_for (string_bytes self.now.path)
+            self.now.stamp (option_map (λ t. t.now) hash.entry) format
+            (option_map (λ e. e.now.fields) exif.entry)) }
+    {
         let alloc = self.session.rt.alloc();
         row_for(alloc, self.path.as_bytes(), self.stamp, hash, format, exif)
     }
@@ -148,12 +190,17 @@ impl<W: Sink, E: Sink> Pictures for Gathered<'_, '_, '_, '_, '_, W, E> {
     fn next(&mut self) -> Result<Option<Found>, Stop> {
         self.end_picture();
         for _ in 0..u64::MAX {
-            let Some(next) = self.session.next_chosen()? else {
+            let Some(next) = self.next_file()? else {
                 break;
             };
             match next {
-                Next::Named(path) | Next::Found(path) => {
-                    if let Some(found) = self.begin_picture(path)? {
+                Next::Named(path) => {
+                    if let Some(found) = self.begin_picture(path, false)? {
+                        return Ok(Some(found));
+                    }
+                }
+                Next::Found(path) => {
+                    if let Some(found) = self.begin_picture(path, !self.has_conditions)? {
                         return Ok(Some(found));
                     }
                 }
@@ -174,21 +221,23 @@ impl<W: Sink, E: Sink> Pictures for Gathered<'_, '_, '_, '_, '_, W, E> {
         self.cataloguing.hash
     }
 
-    fn values(&mut self) -> Result<Option<Vec<SqlValue>>, Stop>
-        ensures read { IfOk result (λ row. IfSome row
-            (λ _. self.new.outcome ≡ Some (outcome_with self.new.faults))) }
-        ensures refused { IfOk result (λ row. IfNone row (self.new.outcome ≡ Some Refused)) }
+    fn row(&mut self) -> Result<FileRow, Stop>
+        ensures ends { IfOk result (λ row. self.new.outcome ≡ outcome_by row self.new.faults) }
     {
+        if !self.is_picture()? {
+            self.outcome = None;
+            return Ok(FileRow::NoPicture);
+        }
         match self.hashed_row() {
             Ok(values) => {
                 let outcome = self.session.skip_faults(self.shown.as_str(), self.faults)?;
                 self.outcome = Some(outcome);
-                Ok(Some(values))
+                Ok(FileRow::Values(values))
             }
             Err(Error::OutOfMemory) => Err(Stop::OutOfMemory),
             Err(error) => {
                 self.outcome = Some(self.session.refuse(self.shown.as_str(), &error)?);
-                Ok(None)
+                Ok(FileRow::Unreadable)
             }
         }
     }
@@ -267,6 +316,7 @@ fn update_catalog<W: Sink, E: Sink>(
         cataloguing,
         has_conditions,
         stamp: FileStamp::UNKNOWN,
+        is_unseen: false,
         faults: 0,
         outcome: None,
         failed: Vec::new(alloc),
@@ -290,11 +340,10 @@ fn report_moves<W: Sink, E: Sink>(
     session: &mut Session<'_, '_, W, E>,
     database: &str,
     moves: &[Move],
-) -> Result<(), Stop> {
-    if session.request.quiet {
-        return Ok(());
-    }
-    for moved in moves {
+) -> Result<(), Stop>
+    ensures { session.new.pending ≡ session.old.pending }
+{
+    for moved in reported_moves(session.request.quiet, moves) {
         session.say(database, &move_text(session.rt.alloc(), moved)?)?;
     }
     Ok(())
@@ -305,10 +354,12 @@ fn report_totals<W: Sink, E: Sink>(
     session: &mut Session<'_, '_, W, E>,
     cataloguing: &Cataloguing<'_>,
     totals: Totals,
-) -> Result<(), Stop> {
-    if session.request.quiet {
-        return Ok(());
+) -> Result<(), Stop>
+    ensures { session.new.pending ≡ session.old.pending }
+{
+    let alloc = session.rt.alloc();
+    match reported_totals(alloc, session.request.quiet, totals, cataloguing.hash)? {
+        Some(text) => session.say(cataloguing.database, &text),
+        None => Ok(()),
     }
-    let text = totals_text(session.rt.alloc(), totals, cataloguing.hash)?;
-    session.say(cataloguing.database, &text)
 }

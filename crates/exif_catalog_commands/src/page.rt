@@ -1,18 +1,24 @@
 //! A page that shows the pictures of a catalogue.
 
-ghost use Rattle.std.specs.Prelude.{◌≡◌, ◌++◌, IfOk, string_bytes};
+ghost use Rattle.std.specs.Prelude.{◌≡◌, ◌⊎◌, ◌++◌, Err, IfOk, IsErr, IsSome, string_bytes};
 ghost use Rattle.exif_decisions.specs.Paths.{slash_after};
-ghost use Rattle.exif_catalog_commands.specs.Pages.{facts_of, item_line, last_as, section_as, seen_as, shown};
+ghost use Rattle.exif_files.specs.Statuses.{code};
+ghost use Rattle.exif_files.specs.declared.outcome.Status.TheVariants.{Incomplete, Refused};
+ghost use Rattle.exif_types.specs.declared.error.Error.TheVariants.{OutOfMemory};
+ghost use Rattle.exif_catalog_commands.specs.Pages.{facts_of, found_in, item_line, last_as, section_as, seen_as, shown};
+ghost use Rattle.exif_session.specs.Statuses.{IsStatus};
 
+use crate::reports::{refusal_of, visit_refusal};
 use exif::{Error, Sink};
 use exif_catalog::{CatalogError, PictureRow, RunError, Visitor, visit};
 use exif_decisions::slash_after;
 use exif_files::{Status, folder_of};
+use exif_inputs::{Console, thumbnail_of};
 use exif_page::{
     Exposure, Facts, Section, Thumbnail as Shown, end_html, entry_html, entry_of, foot_html,
     head_html, link_to, section_of, texts_of, thumbnail_html,
 };
-use exif_session::{Console, Paging, Stop, absolute_of, out_of, thumbnail_of, write_out};
+use exif_session::{Paging, Stop, absolute_of, out_of, write_out};
 use exif_thumbnails::{Coding, Thumbnail};
 use std::alloc::{AllocError, Global};
 
@@ -82,13 +88,31 @@ fn facts_of<'a>(picture: &'a PictureRow<'_>, link: &'a str) -> Facts<'a>
     }
 }
 
+// The thumbnail of a picture of which this was read, or why the picture could not be read. One
+// without Exif data has none.
+fn found_in(
+    read: Result<Option<Thumbnail>, Error>,
+) -> Result<Result<Option<Thumbnail>, Error>, AllocError>
+    ensures value { IfOk result (λ found. found ≡ found_in read.entry) }
+    ensures memory { read.entry ≡ Err OutOfMemory → IsErr result }
+{
+    match read {
+        Ok(found) => Ok(Ok(found)),
+        Err(Error::NotFound(_)) => Ok(Ok(None)),
+        Err(Error::OutOfMemory) => Err(AllocError),
+        Err(error) => Ok(Err(error)),
+    }
+}
+
 impl<E: Sink> Page<'_, '_, '_, E> {
     // The thumbnail in a file, if it has one. A file that can't be read is reported.
-    fn thumbnail_in(&mut self, path: &str) -> Result<Option<Thumbnail>, AllocError> {
-        match thumbnail_of(self.rt, path) {
+    fn thumbnail_in(&mut self, path: &str) -> Result<Option<Thumbnail>, AllocError>
+        ensures worst { (self.new.worst ≡ self.old.worst) ⊎ (self.new.worst ≡ Incomplete) }
+        ensures found { IfOk result
+            (λ found. IsSome found → self.new.worst ≡ self.old.worst) }
+    {
+        match found_in(thumbnail_of(self.rt, path))? {
             Ok(found) => Ok(found),
-            Err(Error::NotFound(_)) => Ok(None),
-            Err(Error::OutOfMemory) => Err(AllocError),
             Err(error) => {
                 self.console.say(path, &error);
                 self.worst = Status::Incomplete;
@@ -151,7 +175,9 @@ pub fn write_page<W: Sink, E: Sink>(
     paging: &Paging<'_>,
     out: &mut W,
     err: &mut E,
-) -> Result<u8, Stop> {
+) -> Result<u8, Stop>
+    ensures { IfOk result IsStatus }
+{
     let mut console = Console::new(rt, err, false);
     let destination = match out_of(rt, paging.database, paging.to, paging.force)? {
         Ok(destination) => destination,
@@ -159,8 +185,10 @@ pub fn write_page<W: Sink, E: Sink>(
     };
     let (html, worst) = match page_of(rt, paging, &mut console) {
         Ok(page) => page,
-        Err(CatalogError::OutOfMemory) => return Err(Stop::OutOfMemory),
-        Err(error) => return Ok(refused(&mut console, paging, &error)),
+        Err(error) => {
+            let refusal = refusal_of(RunError::Catalog(error))?;
+            return Ok(refused(&mut console, paging, &refusal));
+        }
     };
     let written = write_out(rt, paging.to, destination, html.as_slice(), out)?;
     out.flush().map_err(Stop::Output)?;
@@ -191,7 +219,9 @@ fn refused<E: Sink, T: std::fmt::Display>(
     console: &mut Console<'_, E>,
     paging: &Paging<'_>,
     cause: &T,
-) -> u8 {
+) -> u8
+    ensures { result ≡ code Refused }
+{
     console.say(paging.database, cause);
     Status::Refused.code()
 }
@@ -213,8 +243,7 @@ fn page_of<E: Sink>(
     };
     match visit(rt, paging.database, &mut page) {
         Ok(_pictures) => {}
-        Err(RunError::Catalog(error)) => return Err(error),
-        Err(RunError::Caller(_memory)) => return Err(CatalogError::OutOfMemory),
+        Err(error) => return Err(visit_refusal(error)),
     }
     let Page {
         mut html,

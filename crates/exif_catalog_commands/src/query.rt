@@ -1,9 +1,15 @@
 //! Answers of a catalogue.
 
+ghost use Rattle.std.specs.Prelude.{IfOk};
+ghost use Rattle.exif_session.specs.Statuses.{IsStatus};
+
+use crate::reports::query_refusal;
 use exif::Sink;
 use exif_base::send_all;
-use exif_catalog::{CatalogError, Lines, RunError, query};
-use exif_session::{Console, Stop};
+use exif_catalog::{Lines, query};
+use exif_files::Status;
+use exif_inputs::Console;
+use exif_session::Stop;
 use std::io;
 
 // Standard output.
@@ -28,16 +34,16 @@ pub fn answer_query<W: Sink, E: Sink>(
     sql: &str,
     out: &mut W,
     err: &mut E,
-) -> Result<u8, Stop> {
+) -> Result<u8, Stop>
+    ensures { IfOk result IsStatus }
+{
     let answered = query(rt, database, sql, &mut Output { out });
     out.flush().map_err(Stop::Output)?;
-    match answered {
-        Ok(_rows) => Ok(0),
-        Err(RunError::Caller(cause)) => Err(Stop::Output(cause)),
-        Err(RunError::Catalog(CatalogError::OutOfMemory)) => Err(Stop::OutOfMemory),
-        Err(RunError::Catalog(error)) => {
+    match query_refusal(answered)? {
+        None => Ok(Status::Success.code()),
+        Some(error) => {
             Console::new(rt, err, false).say(database, &error);
-            Ok(1)
+            Ok(Status::Refused.code())
         }
     }
 }

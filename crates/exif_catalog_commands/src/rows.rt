@@ -1,15 +1,18 @@
 //! What the row of a picture has, and which rows of pictures that were not seen stay.
 
-ghost use Rattle.std.specs.Prelude.{◌≡◌, ◌≢◌, ◌↔◌, ◌++◌, IfOk, IsTrue, OnOk, map, string_bytes};
+ghost use Rattle.std.specs.Prelude.{◌≡◌, ◌≢◌, ◌↔◌, ◌++◌, IfOk, IsTrue, OnOk, map, option_map, string_bytes};
 ghost use Rattle.std.specs.declared.io.ErrorKind.TheVariants.{NotFound};
 ghost use Rattle.sha2.specs.Sha256.{sha256};
-ghost use Rattle.exif_catalog_commands.specs.Rows.{any_below, hex_pair, hex_text, is_whole, known_stamp};
+ghost use Rattle.exif_catalog.specs.Values.{stored};
+ghost use Rattle.exif_formats.specs.Formats.{format_name};
+ghost use Rattle.exif_json.specs.Flat.{mime_type};
+ghost use Rattle.exif_catalog_commands.specs.Rows.{any_below, hex_pair, hex_text, is_whole, known_stamp, row_for};
 
 use exif::Exif;
 use exif_catalog::{PictureFile, SqlValue, Stamp, is_below, row_values};
 use exif_formats::PictureFormat;
+use exif_inputs::FileStamp;
 use exif_json::mime_type;
-use exif_session::FileStamp;
 use sha2::{Digest, Sha256};
 use std::alloc::{AllocError, Global};
 use std::io::ErrorKind;
@@ -57,6 +60,26 @@ fn has_below(paths: &[String], root: &str) -> bool
     false
 }
 
+// The name of a format, if it is known.
+fn name_of(format: Option<PictureFormat>) -> Option<&'static str>
+    ensures { option_map (λ text. text.now) result ≡ option_map format_name format }
+{
+    match format {
+        Some(format) => Some(format.name()),
+        None => None,
+    }
+}
+
+// The media type of a format, if it is known.
+fn media_type_of(format: Option<PictureFormat>) -> Option<&'static str>
+    ensures { option_map (λ text. text.now) result ≡ option_map mime_type format }
+{
+    match format {
+        Some(format) => Some(mime_type(format)),
+        None => None,
+    }
+}
+
 /// The row of a picture by what is known of its file, and its Exif data, if it has some.
 pub fn row_for(
     alloc: Global,
@@ -65,11 +88,10 @@ pub fn row_for(
     hash: Option<&str>,
     format: Option<PictureFormat>,
     exif: Option<&Exif>,
-) -> Result<Vec<SqlValue>, AllocError> {
-    let (format, mime) = match format {
-        Some(format) => (Some(format.name()), Some(mime_type(format))),
-        None => (None, None),
-    };
+) -> Result<Vec<SqlValue>, AllocError>
+    ensures { IfOk result (λ row. map stored row.items ≡ row_for path.now stamp
+        (option_map (λ t. t.now) hash.entry) format (option_map (λ e. e.now.fields) exif.entry)) }
+{
     let file = PictureFile {
         path,
         size: stamp.size,
@@ -80,8 +102,8 @@ pub fn row_for(
         device: stamp.device,
         inode: stamp.inode,
         hash,
-        format,
-        mime,
+        format: name_of(format),
+        mime: media_type_of(format),
     };
     row_values(alloc, &file, exif)
 }

@@ -1,7 +1,16 @@
 //! What the parts of a file hold, as lines or as JSON.
 
-ghost use Rattle.std.specs.Prelude.{◌≡◌};
-ghost use Rattle.exif_commands.specs.Checks.{outcome_by};
+ghost use Rattle.std.specs.Prelude.{◌≡◌, ◌++◌, IfErr, IfOk, Err, None, codes};
+ghost use Rattle.json.specs.Print.{print};
+ghost use Rattle.json.specs.Tree.{json_tokens};
+ghost use Rattle.exif_check.specs.Json.{checked_json};
+ghost use Rattle.exif_check.specs.Lines.{lines_text};
+ghost use Rattle.exif_decisions.specs.Escaping.{escaped_text};
+ghost use Rattle.exif_formats.specs.Formats.{format_in};
+ghost use Rattle.exif_json.specs.Answers.{IsJsonOf};
+ghost use Rattle.exif_types.specs.Refusals.{Answers};
+ghost use Rattle.exif_types.specs.declared.error.Error.TheVariants.{Io};
+ghost use Rattle.exif_commands.specs.Checks.{checked_as, checked_file, checked_with, outcome_by, outcome_checked};
 
 use exif::{Error, Sink};
 use exif_check::{
@@ -9,9 +18,11 @@ use exif_check::{
 };
 use exif_decisions::{Escaped, Outcome};
 use exif_formats::format_of;
+use exif_inputs::read_file;
 use exif_json::json_of_answer;
-use exif_session::{Form, Session, Stop, read_file};
+use exif_session::{Form, Session, Stop};
 use std::alloc::{AllocError, Global};
+use std::io;
 
 // What is counted of a file that was checked, and the status follows: one that holds a location, or
 // may hold one, is no success. Where only maker notes may hold one, it is, unless the check is
@@ -27,7 +38,9 @@ fn outcome_of_location(location: Location, only_maker_notes: bool, strict: bool)
 }
 
 // The lines of the parts that hold metadata, or may hold some.
-fn lines_by_name(alloc: Global, path: &str, parts: &[Checked]) -> Result<Vec<u8>, AllocError> {
+fn lines_by_name(alloc: Global, path: &str, parts: &[Checked]) -> Result<Vec<u8>, AllocError>
+    ensures { IfOk result (λ text. text.items ≡ lines_text (escaped_text path.now) parts.now) }
+{
     let name = format!(in alloc; "{}", Escaped(path))?;
     Ok(lines_of(alloc, name.as_str(), parts)?.into_bytes())
 }
@@ -38,7 +51,10 @@ fn json_line(
     path: &str,
     file: &[u8],
     parts: &[Checked],
-) -> Result<Vec<u8>, AllocError> {
+) -> Result<Vec<u8>, AllocError>
+    ensures { IfOk result (λ text. text.items ≡ print (json_tokens
+        (checked_json path.now (format_in file.now) parts.now)) ++ codes "\n") }
+{
     let mut text = check_json(alloc, path.as_bytes(), format_of(file), parts)?;
     text.push(b'\n')?;
     Ok(text)
@@ -50,50 +66,118 @@ pub fn check_file<W: Sink, E: Sink>(
     form: Form,
     strict: bool,
     path: &str,
-) -> Result<Outcome, Stop> {
-    let (text, outcome) = match (answer_of(session.rt, form, strict, path)?, form) {
-        (Ok(answer), _) => answer,
-        (Err(error), Form::Lines) => return session.refuse(path, &error),
-        (Err(error), Form::Json) => {
-            (
-                refused_line(session.rt.alloc(), path, error)?,
-                Outcome::Refused,
-            )
-        }
-    };
-    session.answer(text.as_slice())?;
-    Ok(outcome)
+) -> Result<Outcome, Stop>
+    ensures pending { session.new.pending ≡ session.old.pending }
+{
+    let file = read_file(session.rt, path);
+    let answer = answer_of(session.rt.alloc(), form, strict, path, file)?;
+    write_answer(session, form, path, answer)
 }
 
-// What is written of a file, and what is counted of it; or why it was refused.
+// Writes what was answered of a file: as JSON, why it was refused, too; else that is reported.
+fn write_answer<W: Sink, E: Sink>(
+    session: &mut Session<'_, '_, W, E>,
+    form: Form,
+    path: &str,
+    answer: Result<(Vec<u8>, Outcome), Error>,
+) -> Result<Outcome, Stop>
+    ensures outcome { IfOk result (λ outcome. outcome ≡ outcome_checked answer.entry) }
+    ensures pending { session.new.pending ≡ session.old.pending }
+{
+    match told(session.rt.alloc(), form, path, answer)? {
+        Ok((text, outcome)) => {
+            session.answer(text.as_slice())?;
+            Ok(outcome)
+        }
+        Err(error) => session.refuse(path, &error),
+    }
+}
+
+// What is written of a file: as JSON, an object of why it was refused, too.
+fn told(
+    alloc: Global,
+    form: Form,
+    path: &str,
+    answer: Result<(Vec<u8>, Outcome), Error>,
+) -> Result<Result<(Vec<u8>, Outcome), Error>, AllocError>
+    ensures outcome { IfOk result (λ told. outcome_checked told ≡ outcome_checked answer.entry) }
+    ensures read { IfOk answer.entry (λ read. IfOk result (λ told. told ≡ answer.entry)) }
+{
+    match (answer, form) {
+        (Ok(answer), _) => Ok(Ok(answer)),
+        (Err(error), Form::Lines) => Ok(Err(error)),
+        (Err(error), Form::Json) => {
+            let mut text = refused_object(alloc, path, error)?;
+            text.push(b'\n')?;
+            Ok(Ok((text, Outcome::Refused)))
+        }
+    }
+}
+
+// What is written of a file of which this was read, and what is counted of it; or why it was
+// refused.
 fn answer_of(
-    rt: &HostRuntime,
+    alloc: Global,
     form: Form,
     strict: bool,
     path: &str,
-) -> Result<Result<(Vec<u8>, Outcome), Error>, AllocError> {
-    let alloc = rt.alloc();
-    let file = match read_file(rt, path) {
-        Ok(file) => file,
-        Err(cause) => return Ok(Err(Error::Io(cause))),
-    };
-    let parts = match check_picture(alloc, file.as_slice())? {
-        Ok(parts) => parts,
-        Err(error) => return Ok(Err(error)),
-    };
-    let text = match form {
-        Form::Lines => lines_by_name(alloc, path, parts.as_slice())?,
-        Form::Json => json_line(alloc, path, file.as_slice(), parts.as_slice())?,
-    };
-    let location = location_of(parts.as_slice());
-    let only_maker_notes = is_only_maker_notes(parts.as_slice());
-    let outcome = outcome_of_location(location, only_maker_notes, strict);
-    Ok(Ok((text, outcome)))
+    file: io::Result<Vec<u8>>,
+) -> Result<Result<(Vec<u8>, Outcome), Error>, AllocError>
+    ensures read { IfOk file (λ bytes. IfOk result (λ answer.
+        Answers checked_as answer (checked_file form strict path.now bytes.items))) }
+    ensures unread { IfErr file (λ cause. IfOk result (λ answer. answer ≡ Err (Io cause))) }
+{
+    match file {
+        Ok(file) => answer_of_bytes(alloc, form, strict, path, file.as_slice()),
+        Err(cause) => Ok(Err(Error::Io(cause))),
+    }
 }
 
-// The object of a file that was refused, in a line.
-fn refused_line(alloc: Global, path: &str, error: Error) -> Result<Vec<u8>, AllocError> {
-    let mut text = json_of_answer(alloc, path.as_bytes(), None, Err(error))?;
-    text.push(b'\n')?;
-    Ok(text)
+// The same of a file that was read.
+#[tactic(auto, using(crate::proofs::Checked::refused_if))]
+fn answer_of_bytes(
+    alloc: Global,
+    form: Form,
+    strict: bool,
+    path: &str,
+    file: &[u8],
+) -> Result<Result<(Vec<u8>, Outcome), Error>, AllocError>
+    ensures { IfOk result (λ answer.
+        Answers checked_as answer (checked_file form strict path.now file.now)) }
+{
+    match check_picture(alloc, file)? {
+        Ok(parts) => {
+            let parts = parts.as_slice();
+            Ok(Ok(answer_of_parts(alloc, form, strict, path, file, parts)?))
+        }
+        Err(error) => Ok(Err(error)),
+    }
+}
+
+// What is written of a file with these parts, and what is counted of it.
+fn answer_of_parts(
+    alloc: Global,
+    form: Form,
+    strict: bool,
+    path: &str,
+    file: &[u8],
+    parts: &[Checked],
+) -> Result<(Vec<u8>, Outcome), AllocError>
+    ensures { IfOk result (λ answer.
+        checked_as answer ≡ checked_with form strict path.now file.now parts.now) }
+{
+    let text = match form {
+        Form::Lines => lines_by_name(alloc, path, parts)?,
+        Form::Json => json_line(alloc, path, file, parts)?,
+    };
+    let only_maker_notes = is_only_maker_notes(parts);
+    let outcome = outcome_of_location(location_of(parts), only_maker_notes, strict);
+    Ok((text, outcome))
+}
+
+// The object of a file that was refused.
+fn refused_object(alloc: Global, path: &str, error: Error) -> Result<Vec<u8>, AllocError>
+    ensures { IfOk result (λ text. IsJsonOf path.now None (Err error.entry) text.items) }
+{
+    json_of_answer(alloc, path.as_bytes(), None, Err(error))
 }

@@ -1,17 +1,17 @@
 //! The JSON objects of a file.
 
-ghost use Rattle.std.specs.Prelude.{◌≡◌};
-ghost use Rattle.exif_commands.specs.Reads.{outcome_read};
+ghost use Rattle.std.specs.Prelude.{◌≡◌, IfErr, IfOk, Err};
+ghost use Rattle.exif_commands.specs.Objects.{IsObject, format_of, summary_by};
+ghost use Rattle.exif_commands.specs.Reads.{answer_read, counted_in, made_as, outcome_read, outcome_summed, outcome_written, with_faults};
 
-use crate::reads::with_faults;
+use crate::reads::{counted, read_opened, write_read};
 use exif::{Error, Exif, Sink, Tag};
 use exif_decisions::Outcome;
 use exif_formats::{Picture, PictureFormat};
+use exif_inputs::{FileStamp, open, stamp_of};
 use exif_json::{FileFacts, flat_json, json_of_answer, json_of_tags};
-use exif_report::found_of;
-use exif_session::{Input, Reading, Session, Stop, open, read, stamp_of};
+use exif_session::{Reading, Session, Stop};
 use std::alloc::{AllocError, Global};
-use std::io;
 
 /// Writes the object of a file in a line, with all its fields or with those of some tags, and
 /// answers the file's status.
@@ -20,9 +20,12 @@ pub fn write_object<W: Sink, E: Sink>(
     reading: Reading,
     tags: Option<&Vec<Tag>>,
     path: &str,
-) -> Result<Outcome, Stop> {
+) -> Result<Outcome, Stop>
+    ensures pending { session.new.pending ≡ session.old.pending }
+{
     let rt = session.rt;
-    let (mut text, outcome) = object_of(rt.alloc(), reading, tags, path, open(rt, path))?;
+    let read = read_opened(rt.alloc(), reading.options(), open(rt, path));
+    let (mut text, outcome) = object_of(rt.alloc(), tags, path.as_bytes(), read)?;
     text.push(b'\n')?;
     session.answer(text.as_slice())?;
     Ok(outcome)
@@ -33,32 +36,30 @@ pub fn write_summary<W: Sink, E: Sink>(
     session: &mut Session<'_, '_, W, E>,
     reading: Reading,
     path: &str,
-) -> Result<Outcome, Stop> {
-    match summary_of(session.rt, reading, path)? {
-        Ok((mut text, faults)) => {
-            text.push(b'\n')?;
-            session.answer(text.as_slice())?;
-            session.skip_faults(path, faults)
-        }
-        Err(error) => session.refuse(path, &error),
-    }
+) -> Result<Outcome, Stop>
+    ensures pending { session.new.pending ≡ session.old.pending }
+{
+    let rt = session.rt;
+    let stamp = stamp_of(rt, path);
+    let read = read_opened(rt.alloc(), reading.options(), open(rt, path));
+    let made = summary_of(rt.alloc(), path.as_bytes(), stamp, read)?;
+    write_read(session, path, made)
 }
 
-// The object of a file, and what is counted of the file.
+// The object of a file of which this was read, and what is counted of the file.
 fn object_of(
     alloc: Global,
-    reading: Reading,
     tags: Option<&Vec<Tag>>,
-    path: &str,
-    input: io::Result<Input>,
-) -> Result<(Vec<u8>, Outcome), AllocError> {
-    let read = match input {
-        Ok(input) => read(alloc, reading.options(), input),
-        Err(cause) => Err(Error::Io(cause)),
-    };
+    path: &[u8],
+    read: Result<Picture, Error>,
+) -> Result<(Vec<u8>, Outcome), AllocError>
+    ensures outcome { IfOk result (λ made. made.1 ≡ outcome_read (answer_read read.entry)) }
+    ensures object { IfOk result (λ made. IsObject tags.entry path.now (format_of read.entry)
+        (answer_read read.entry) made.0.items) }
+{
     match read {
-        Ok(Picture { format, answer }) => answered(alloc, tags, path.as_bytes(), format, answer),
-        Err(error) => answered(alloc, tags, path.as_bytes(), None, Err(error)),
+        Ok(Picture { format, answer }) => answered(alloc, tags, path, format, answer),
+        Err(error) => answered(alloc, tags, path, None, Err(error)),
     }
 }
 
@@ -73,13 +74,18 @@ fn outcome_of(answer: &Result<Exif, Error>) -> Outcome
     }
 }
 
+// The object of a file of this format, and what is counted of it.
 fn answered(
     alloc: Global,
     tags: Option<&Vec<Tag>>,
     path: &[u8],
     format: Option<PictureFormat>,
     answer: Result<Exif, Error>,
-) -> Result<(Vec<u8>, Outcome), AllocError> {
+) -> Result<(Vec<u8>, Outcome), AllocError>
+    ensures outcome { IfOk result (λ made. made.1 ≡ outcome_read answer.entry) }
+    ensures object { IfOk result (λ made.
+        IsObject tags.entry path.now format answer.entry made.0.items) }
+{
     let outcome = outcome_of(&answer);
     let json = match tags {
         Some(tags) => json_of_tags(alloc, path, format, answer, tags.as_slice())?,
@@ -88,34 +94,46 @@ fn answered(
     Ok((json, outcome))
 }
 
-// The flat object of a file, and how many faults it has; or why it was refused.
+// The flat object of a file of which this was read, in a line, and how many faults it has; or why
+// it was refused.
 fn summary_of(
-    rt: &HostRuntime,
-    reading: Reading,
-    path: &str,
-) -> Result<Result<(Vec<u8>, usize), Error>, AllocError> {
-    let alloc = rt.alloc();
-    let stamp = stamp_of(rt, path);
-    let picture = match open(rt, path) {
-        Ok(input) => read(alloc, reading.options(), input),
-        Err(cause) => Err(Error::Io(cause)),
-    };
-    let Picture { format, answer } = match picture {
-        Ok(picture) => picture,
-        Err(error) => return Ok(Err(error)),
-    };
-    let facts = FileFacts {
-        path: path.as_bytes(),
-        format,
-        size: stamp.size,
-        modified: stamp.modified,
-    };
-    let found = match found_of(alloc, answer) {
-        Ok((exif, faults)) => Ok((exif, faults.len())),
-        Err(error) => Err(error),
-    };
-    match with_faults(found) {
-        Ok((exif, faults)) => Ok(Ok((flat_json(alloc, &facts, exif.as_ref())?, faults))),
+    alloc: Global,
+    path: &[u8],
+    stamp: FileStamp,
+    read: Result<Picture, Error>,
+) -> Result<Result<(Vec<u8>, usize), Error>, AllocError>
+    ensures outcome { IfOk read.entry (λ picture. IfOk result (λ made. outcome_written made
+        ≡ outcome_summed (with_faults (counted_in picture.answer)))) }
+    ensures unread { IfErr read.entry (λ e. IfOk result (λ made. made ≡ Err e)) }
+{
+    match read {
+        Ok(Picture { format, answer }) => {
+            let facts = FileFacts {
+                path,
+                format,
+                size: stamp.size,
+                modified: stamp.modified,
+            };
+            summary_by(alloc, &facts, counted(alloc, answer))
+        }
+        Err(error) => Ok(Err(error)),
+    }
+}
+
+// The same of a file of which this is known: one without Exif data has an object, too.
+fn summary_by(
+    alloc: Global,
+    facts: &FileFacts<'_>,
+    found: Result<(Option<Exif>, usize), Error>,
+) -> Result<Result<(Vec<u8>, usize), Error>, AllocError>
+    ensures { IfOk result (λ made. made_as made ≡ summary_by facts.now found.entry) }
+{
+    match found {
+        Ok((exif, faults)) => {
+            let mut text = flat_json(alloc, facts, exif.as_ref())?;
+            text.push(b'\n')?;
+            Ok(Ok((text, faults)))
+        }
         Err(error) => Ok(Err(error)),
     }
 }

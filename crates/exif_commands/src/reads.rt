@@ -1,9 +1,60 @@
-//! What was read of a picture, with its faults.
+//! What was read of a picture, with its faults, and what is written of it.
 
-ghost use Rattle.std.specs.Prelude.{◌≡◌};
-ghost use Rattle.exif_commands.specs.Reads.{with_faults};
+ghost use Rattle.std.specs.Prelude.{◌≡◌, All, IfErr, IfOk, IfSome, Err, take};
+ghost use Rattle.exif_formats.specs.Formats.{format_in};
+ghost use Rattle.exif_formats.specs.Pictures.{ReadsPicture};
+ghost use Rattle.exif_inputs.specs.Uses.{held};
+ghost use Rattle.exif_types.specs.Failures.{IsInvalidFormat};
+ghost use Rattle.exif_types.specs.declared.error.Error.TheVariants.{Io};
+ghost use Rattle.exif_commands.specs.Reads.{answer_read, counted_in, outcome_written, with_count, with_faults};
 
-use exif::{Error, Exif};
+use exif::{Error, Exif, Sink};
+use exif_decisions::Outcome;
+use exif_formats::{Options, Picture};
+use exif_inputs::{Input, read};
+use exif_session::{Session, Stop};
+use std::alloc::Global;
+use std::io;
+
+/// What a reader answers of what was opened, or why that could not be.
+pub fn read_opened(
+    alloc: Global,
+    options: Options,
+    input: io::Result<Input>,
+) -> Result<Picture, Error>
+    ensures failed { IfErr input (λ cause. result ≡ Err (Io cause)) }
+    ensures format { IfOk input (λ input. IfOk result (λ picture. IfSome (held input) (λ bytes.
+        picture.format ≡ format_in (take 4096 bytes)))) }
+    ensures reads { IfOk input (λ input. IfOk result (λ picture. IfSome (held input) (λ bytes.
+        ReadsPicture options.lenient options.limit bytes picture.answer))) }
+{
+    match input {
+        Ok(input) => read(alloc, options, input),
+        Err(cause) => Err(Error::Io(cause)),
+    }
+}
+
+/// What was read of a picture, or why nothing was.
+pub fn answer_of(read: Result<Picture, Error>) -> Result<Exif, Error>
+    ensures { result ≡ answer_read read.entry }
+{
+    match read {
+        Ok(picture) => picture.answer,
+        Err(error) => Err(error),
+    }
+}
+
+/// What was read, and the faults that were skipped; an error that brings nothing comes back.
+pub fn found_of(alloc: Global, answer: Result<Exif, Error>) -> Result<(Exif, Vec<Error>), Error>
+    ensures found { with_count result ≡ counted_in answer.entry }
+    ensures invalid { IfOk result (λ found. All IsInvalidFormat found.1.items) }
+{
+    match answer {
+        Ok(exif) => Ok((exif, Vec::new(alloc))),
+        Err(Error::PartialResult(partial)) => Ok(partial.into_inner()),
+        Err(error) => Err(error),
+    }
+}
 
 /// What was read of a picture, and how many faults it has: one without Exif data was read, too.
 pub fn with_faults(read: Result<(Exif, usize), Error>) -> Result<(Option<Exif>, usize), Error>
@@ -13,5 +64,41 @@ pub fn with_faults(read: Result<(Exif, usize), Error>) -> Result<(Option<Exif>, 
         Ok((exif, faults)) => Ok((Some(exif), faults)),
         Err(Error::NotFound(_)) => Ok((None, 0)),
         Err(error) => Err(error),
+    }
+}
+
+/// The same of what a reader answered.
+pub fn counted(alloc: Global, answer: Result<Exif, Error>) -> Result<(Option<Exif>, usize), Error>
+    ensures { result ≡ with_faults (counted_in answer.entry) }
+{
+    with_faults(count_of(found_of(alloc, answer)))
+}
+
+// What was read, and how many faults were skipped.
+fn count_of(found: Result<(Exif, Vec<Error>), Error>) -> Result<(Exif, usize), Error>
+    ensures { result ≡ with_count found.entry }
+{
+    match found {
+        Ok((exif, faults)) => Ok((exif, faults.len())),
+        Err(error) => Err(error),
+    }
+}
+
+/// Writes what is written of a file, and reports how many faults were skipped in it; or reports why
+/// it was refused. Answers its status.
+pub fn write_read<W: Sink, E: Sink>(
+    session: &mut Session<'_, '_, W, E>,
+    path: &str,
+    made: Result<(Vec<u8>, usize), Error>,
+) -> Result<Outcome, Stop>
+    ensures outcome { IfOk result (λ outcome. outcome ≡ outcome_written made.entry) }
+    ensures pending { session.new.pending ≡ session.old.pending }
+{
+    match made {
+        Ok((text, faults)) => {
+            session.answer(text.as_slice())?;
+            session.skip_faults(path, faults)
+        }
+        Err(error) => session.refuse(path, &error),
     }
 }

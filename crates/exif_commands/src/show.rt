@@ -1,19 +1,42 @@
 //! The report of a file, under a line with its name.
 
+ghost use Rattle.std.specs.Prelude.{◌≡◌, Err, IfErr, IfOk, IfSome, None, Ok};
+ghost use Rattle.exif_session.specs.declared.session.Stop.TheVariants.{Output};
+ghost use Rattle.exif_commands.specs.Reads.{answer_read, counted_in, outcome_reported};
+
+use crate::reads::{answer_of, found_of, read_opened};
 use exif::{Counted, Error, Sink};
 use exif_base::send_all;
 use exif_decisions::{Escaped, Outcome};
-use exif_report::{found_of, write_all};
-use exif_session::{Input, Lines, Reading, Session, Stop, open, read};
+use exif_formats::Picture;
+use exif_inputs::{Lines, open};
+use exif_report::write_all;
+use exif_session::{Reading, Session, Stop};
 use std::alloc::Global;
+use std::io;
 
 /// Writes the report of a file, and answers its status.
 pub fn show_file<W: Sink, E: Sink>(
     session: &mut Session<'_, '_, W, E>,
     reading: Reading,
     path: &str,
-) -> Result<Outcome, Stop> {
-    match show(session.rt, reading, path, session.out)? {
+) -> Result<Outcome, Stop>
+    ensures pending { session.new.pending ≡ session.old.pending }
+{
+    let shown = show(session.rt, reading, path, session.out)?;
+    end_report(session, path, shown)
+}
+
+// What is counted of a file by its report: how many faults were skipped, or why it was refused.
+fn end_report<W: Sink, E: Sink>(
+    session: &mut Session<'_, '_, W, E>,
+    path: &str,
+    shown: Result<u64, Error>,
+) -> Result<Outcome, Stop>
+    ensures outcome { IfOk result (λ outcome. outcome ≡ outcome_reported shown.entry) }
+    ensures pending { session.new.pending ≡ session.old.pending }
+{
+    match shown {
         Ok(faults) => Ok(Outcome::of_done(faults == 0)),
         Err(error) => session.refuse(path, &error),
     }
@@ -30,27 +53,39 @@ fn show<W: Sink>(
     let name = Escaped(path);
     let line = format!(in rt.alloc(); "{name}:\n")?;
     send_all(out, line.as_bytes()).map_err(Stop::Output)?;
-    let input = match open(rt, path) {
-        Ok(input) => input,
-        Err(error) => return Ok(Err(Error::Io(error))),
-    };
+    let read = read_opened(rt.alloc(), reading.options(), open(rt, path));
     let mut lines = Counted::new(Lines::new(rt.alloc(), out, reading.full));
-    let result = report_input(rt.alloc(), reading, input, &mut lines);
-    match lines.into_inner().failed() {
+    let result = report_picture(rt.alloc(), read, &mut lines);
+    unless_failed(lines.into_inner().failed(), result)
+}
+
+// What was answered of a file, unless the output took no more.
+fn unless_failed(
+    failed: Option<io::Error>,
+    answer: Result<u64, Error>,
+) -> Result<Result<u64, Error>, Stop>
+    ensures whole { failed ≡ None → result ≡ Ok answer.entry }
+    ensures stopped { IfSome failed (λ cause. result ≡ Err (Output cause)) }
+{
+    match failed {
         Some(error) => Err(Stop::Output(error)),
-        None => Ok(result),
+        None => Ok(answer),
     }
 }
 
-// The report of what was opened: how many faults were skipped.
-fn report_input<W: Sink>(
+// The report of a picture of which this was read: how many faults were skipped. Of a picture that
+// is refused, nothing is written.
+fn report_picture<W: Sink>(
     alloc: Global,
-    reading: Reading,
-    input: Input,
+    read: Result<Picture, Error>,
     out: &mut W,
-) -> Result<u64, Error> {
-    let picture = read(alloc, reading.options(), input)?;
-    let (exif, faults) = found_of(alloc, picture.answer)?;
+) -> Result<u64, Error>
+    ensures count { IfOk result (λ count.
+        IfOk (counted_in (answer_read read.entry)) (λ found. count ≡ found.1)) }
+    ensures refused { IfErr (counted_in (answer_read read.entry)) (λ e. result ≡ Err e) }
+    ensures kept { IfErr (counted_in (answer_read read.entry)) (λ e. out.new ≡ out.old) }
+{
+    let (exif, faults) = found_of(alloc, answer_of(read))?;
     write_all(alloc, &exif, faults.as_slice(), out)?;
     Ok(faults.len() as u64)
 }

@@ -7,7 +7,7 @@ use Rattle.exif_decisions.specs.declared.found.Found.{Found}
 use Rattle.exif_decisions.specs.declared.found.FoundStep.{FoundStep}
 use Rattle.exif_decisions.specs.declared.found.FoundStep.TheVariants as step
 use Rattle.exif_decisions.specs.declared.found.NotRead.{NotRead}
-use Rattle.exif_session.specs.Pending.{NextFile, the_input, the_named, the_found, the_beside, the_failed}
+use Rattle.exif_inputs.specs.Pending.{NextFile, the_input, the_named, the_found, the_beside, the_failed}
 
 -- this file, or none where its picture does not meet the conditions
 abbrev pub IsThisIf : NextFile → Option NextFile → Type 0

@@ -4,9 +4,9 @@ use Rattle.std.specs.Global.{Global}
 use Rattle.std.specs.declared.string.String.{String}
 use Rattle.exif_decisions.specs.Tallies.{counted}
 use Rattle.exif_decisions.specs.declared.outcome.Outcome.TheVariants.{Refused}
-use Rattle.exif_session.specs.Pending.{with_counts}
+use Rattle.exif_inputs.specs.Pending.{with_counts}
 use Rattle.exif_session.specs.declared.in_place.Plan as plan
-use Rattle.exif_session.specs.declared.pending.Pending as pending
+use Rattle.exif_inputs.specs.declared.pending.Pending as pending
 
 -- a file that is added to a plan, with the place where its links end
 pub record IsPlanned (path : String Global) (old new : plan.Plan) (before after : pending.Pending) : Type 0 where

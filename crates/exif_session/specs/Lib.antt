@@ -1,15 +1,10 @@
 pub mod Answers
 pub mod Choosing
-pub mod Chosen
 pub mod Flags
-pub mod Found
 pub mod InPlace
-pub mod Naming
 pub mod NotChangedTexts
 pub mod OutTexts
-pub mod Pending
 pub mod Scrubs
-pub mod Thumbnails
-pub mod Uses
-pub mod Wished
+pub mod Statuses
+pub mod Tasks
 pub mod Words

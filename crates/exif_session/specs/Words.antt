@@ -1,5 +1,5 @@
 -- What a summary calls what was done, and notes on a change.
-use Rattle.std.specs.Prelude.{ℕ, ◌==◌, List, ◌++◌, Bool, true, false, codes, if◌then◌else◌}
+use Rattle.std.specs.Prelude.{ℕ, ◌==◌, List, [], ◌++◌, Bool, true, false, codes, if◌then◌else◌}
 use Rattle.std.specs.Fmt.{decimal}
 use Rattle.exif_change.specs.declared.notes.Note.{Note}
 use Rattle.exif_change.specs.declared.notes.Note.TheVariants as note
@@ -51,6 +51,11 @@ abbrev pub pictures_text : ℕ → List ℕ
 pictures_text count =
     if count == 1 then codes "the picture behind the first one was removed" else
     decimal count ++ codes " pictures behind the first one were removed"
+
+-- the notes that are written, by whether the run is quiet
+abbrev pub said_notes : Bool → List Note → List Note
+said_notes true notes = []
+said_notes false notes = notes
 
 -- what the user is to know of a change
 abbrev pub note_text : Note → List ℕ

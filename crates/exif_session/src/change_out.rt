@@ -1,7 +1,11 @@
 //! A changed file that is written to another one.
 
+ghost use Rattle.std.specs.Prelude.{◌≡◌, OnErr, OnOk};
+ghost use Rattle.exif_decisions.specs.Tallies.{counted};
+ghost use Rattle.exif_decisions.specs.declared.outcome.Outcome.{Outcome};
+ghost use Rattle.exif_inputs.specs.Pending.{with_counts};
+
 use crate::change::{change_bytes, notes_of};
-use crate::inputs::read_file;
 use crate::notes::NoteLine;
 use crate::output::{OutError, out_of, write_out};
 use crate::request::{Change, Task};
@@ -9,15 +13,18 @@ use crate::session::{Session, Stop};
 use exif::Sink;
 use exif_change::Refusal;
 use exif_decisions::Outcome;
+use exif_inputs::read_file;
 
-/// Writes a changed file to OUT, and answers its status.
+/// Writes a changed file to OUT, and answers its status. It counts nothing.
 pub fn change_into<W: Sink, E: Sink>(
     session: &mut Session<'_, '_, W, E>,
     what: &Change<'_>,
     path: &str,
     to: &str,
     force: bool,
-) -> Result<Outcome, Stop> {
+) -> Result<Outcome, Stop>
+    ensures { session.new.pending ≡ session.old.pending }
+{
     let rt = session.rt;
     let destination = match out_of(rt, path, to, force)? {
         Ok(destination) => destination,
@@ -52,7 +59,9 @@ fn say_notes<W: Sink, E: Sink>(
     what: &Change<'_>,
     path: &str,
     old: &[u8],
-) -> Result<(), Stop> {
+) -> Result<(), Stop>
+    ensures { session.new.pending ≡ session.old.pending }
+{
     if session.request.quiet {
         return Ok(());
     }
@@ -62,8 +71,12 @@ fn say_notes<W: Sink, E: Sink>(
     Ok(())
 }
 
-/// Changes standard input into standard output.
-pub fn change_input<W: Sink, E: Sink>(session: &mut Session<'_, '_, W, E>) -> Result<(), Stop> {
+/// Changes standard input into standard output, and counts it.
+pub fn change_input<W: Sink, E: Sink>(session: &mut Session<'_, '_, W, E>) -> Result<(), Stop>
+    ensures counted { OnOk result ((outcome : Outcome) × (session.new.pending
+        ≡ with_counts (counted outcome session.old.pending.counts) session.old.pending)) }
+    ensures kept { OnErr result (session.new.pending ≡ session.old.pending) }
+{
     let request = session.request;
     let outcome = match &request.task {
         Task::Change(what, _) => change_into(session, what, "-", "-", false)?,

@@ -13,17 +13,16 @@ ghost use Rattle.exif_decisions.specs.declared.outcome.Outcome.TheVariants.{Refu
 
 use crate::change::ChangeEdit;
 use crate::change_out::change_input;
-use crate::console::Console;
-use crate::notes::NoteLine;
+use crate::notes::{NoteLine, said_notes};
 use crate::request::Change;
 use crate::session::{Item, Session, Stop};
-use crate::wishes::absolute_by;
 use exif::Sink;
 use exif_change::{Left, Note, Refusal};
 use exif_decisions::{Counts, Escaped, Outcome};
 use exif_files::{
     Failure, HostFiles, Keeping, Report, Reporter, WriteError, change_all, folder_of,
 };
+use exif_inputs::{Console, absolute_by};
 use std::alloc::AllocError;
 use std::fmt::{self, Display};
 use std::fs;
@@ -206,10 +205,7 @@ impl<'p, 'c, 'r, E: Sink> Messages<'p, 'c, 'r, E> {
         for left in report.left.iter() {
             self.console.say(path, left);
         }
-        if self.quiet {
-            return;
-        }
-        for note in report.notes.iter() {
+        for note in said_notes(self.quiet, report.notes.as_slice()) {
             self.console.say(path, &NoteLine(*note));
         }
     }

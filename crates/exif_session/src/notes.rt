@@ -1,10 +1,17 @@
 //! Notes on a change, in words.
 
-ghost use Rattle.std.specs.Prelude.{Some};
-ghost use Rattle.exif_session.specs.Words.{note_text};
+ghost use Rattle.std.specs.Prelude.{◌≡◌, Some};
+ghost use Rattle.exif_session.specs.Words.{note_text, said_notes};
 
 use exif_change::Note;
 use std::fmt;
+
+/// The notes that are written: none in a quiet run.
+pub(crate) fn said_notes(is_quiet: bool, notes: &[Note]) -> &[Note]
+    ensures { result.now ≡ said_notes is_quiet notes.now }
+{
+    if is_quiet { &[] } else { notes }
+}
 
 /// What the user is to know of a change, as a line.
 #[derive(Clone, Copy)]

@@ -142,10 +142,7 @@ fn replace_out(rt: &HostRuntime, to: &str, bytes: &[u8]) -> Result<(), WriteErro
 
 // What OUT is.
 fn existing_at(rt: &HostRuntime, to: &str) -> Existing {
-    let leads_to_file = match fs::metadata(rt, to) {
-        Ok(found) => Some(found.is_file()),
-        Err(_nothing) => None,
-    };
+    let leads_to_file = fs::metadata(rt, to).ok().map(|found| found.is_file());
     existing_of(leads_to_file, fs::symlink_metadata(rt, to).is_ok())
 }
 

@@ -1,16 +1,16 @@
 //! What the arguments request.
 
 ghost use Rattle.std.specs.Prelude.{◌≡◌};
-ghost use Rattle.exif_session.specs.Uses.{changes, takes_companions, use_for};
+ghost use Rattle.exif_session.specs.Tasks.{changes, takes_companions, use_for};
 ghost use Rattle.exif_session.specs.Words.{partial_of, renamed_as, verb_of};
 
-use crate::inputs::Use;
 use exif::Tag;
 use exif_change::{Assignment, ClockShift, Color, Dates, Removed};
 use exif_columns::{self as columns, Separator};
 use exif_copy::Selection;
 use exif_files::Keeping;
 use exif_formats::Options;
+use exif_inputs::Use;
 use exif_rename::{DateTag, Pattern};
 use exif_summary::Choice;
 

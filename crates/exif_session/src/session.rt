@@ -1,27 +1,28 @@
 //! What a run has: the files that wait, and where its answers and messages go.
 
-ghost use Rattle.std.specs.Prelude.{◌≡◌, false, length, map, option_map, reverse, string_bytes, None, Ok, IfOk, OnErr, OnOk};
+ghost use Rattle.std.specs.Prelude.{◌≡◌, ℕ, List, false, true, length, map, option_map, reverse, string_bytes, None, Ok, IfOk, OnErr, OnOk};
 ghost use Rattle.exif_decisions.specs.Outcomes.{outcome_with};
 ghost use Rattle.exif_decisions.specs.Tallies.{counted, counted_current, counted_done, counted_partial, counted_refused, counted_unchanged, no_counts, skipped, status_in};
 ghost use Rattle.exif_decisions.specs.declared.outcome.Outcome.TheVariants.{Partial, Refused, Unchanged};
 ghost use Rattle.exif_files.specs.Statuses.{code, worse};
 ghost use Rattle.exif_files.specs.declared.outcome.Status.TheVariants as status;
 ghost use Rattle.exif_session.specs.Choosing.{IsChosen, IsChosenInFolder};
-ghost use Rattle.exif_session.specs.Pending.{named, next_file, waiting_of, with_counts};
-ghost use Rattle.exif_session.specs.Uses.{changes, takes_companions};
+ghost use Rattle.exif_inputs.specs.Pending.{named, next_file, waiting_of, with_counts, with_names};
+ghost use Rattle.exif_session.specs.Tasks.{changes, takes_companions};
 
-use crate::choosing::is_chosen;
-use crate::console::Console;
-use crate::inputs::found_in_folder;
-use crate::pending::{Next, Pending};
 use crate::request::Request;
 use exif::Sink;
 use exif_base::send_all;
 use exif_decisions::{Found, FoundStep, Outcome, SkippedFaults, Summary, fate_of};
-use exif_files::{Status, remove_abandoned};
+use exif_files::{Status, folder_of, remove_abandoned};
+use exif_inputs::{Console, Next, Pending, found_in_folder, is_chosen};
 use std::alloc::{AllocError, AllocFailed};
-use std::fmt::Display;
-use std::io;
+use std::fmt::{self, Display};
+use std::{fs, io};
+
+// How many runs side by side may have been interrupted in a folder: temporary files with the numbers
+// below are looked for beside a file that is named.
+const MAX_RUNS: u32 = 4;
 
 /// Why a run ended before its last file.
 #[derive(Drop)]
@@ -55,6 +56,20 @@ pub enum Item {
     File(String),
 }
 
+// Why a temporary file stays.
+#[derive(Drop)]
+struct CantRemove(io::Error);
+
+impl Display for CantRemove {
+    // the text of the system's own error is not known
+    ghost output = { λ why. None };
+
+    fn fmt<W: fmt::Write>(&self, f: &mut fmt::Formatter<W>) -> fmt::Result {
+        let cause = &self.0;
+        write!(f, "a temporary file that can't be removed: {cause}")
+    }
+}
+
 /// What a run has.
 #[derive(Drop)]
 pub struct Session<'r, 'a, W, E> {
@@ -68,6 +83,25 @@ pub struct Session<'r, 'a, W, E> {
     pub console: Console<'r, E>,
     /// The files that were not processed yet.
     pub pending: Pending,
+    // the folder in which temporary files were looked for last
+    cleared: Option<String>,
+}
+
+// Adds the names in standard input, if it has some.
+fn add_input(rt: &HostRuntime, has_names: bool, pending: &mut Pending) -> Result<(), Stop>
+    ensures none { has_names ≡ false → pending.new ≡ pending.old }
+    ensures names { has_names ≡ true → OnOk result ((names : List ℕ)
+        × (map waiting_of pending.new.waiting.items
+        ≡ with_names names (map waiting_of pending.old.waiting.items))) }
+    ensures counts { pending.new.counts ≡ pending.old.counts }
+{
+    if !has_names {
+        return Ok(());
+    }
+    match pending.add_names(rt.alloc(), rt.stdin()) {
+        Ok(()) => Ok(()),
+        Err(cause) => Err(Stop::Input(cause)),
+    }
 }
 
 impl<'r, 'a, W: Sink, E: Sink> Session<'r, 'a, W, E> {
@@ -83,13 +117,13 @@ impl<'r, 'a, W: Sink, E: Sink> Session<'r, 'a, W, E> {
         ensures paths { request.now.names_from_input ≡ false → IfOk result (λ session.
             map waiting_of session.pending.waiting.items
             ≡ reverse (map (λ path. named path.now) request.now.paths.items)) }
+        ensures names { request.now.names_from_input ≡ true → IfOk result (λ session.
+            (names : List ℕ) × (map waiting_of session.pending.waiting.items ≡ with_names names
+            (reverse (map (λ path. named path.now) request.now.paths.items)))) }
         ensures counts { IfOk result (λ session. session.pending.counts ≡ no_counts) }
     {
         let mut pending = Pending::new(rt.alloc(), request.paths.as_slice(), request.recursive)?;
-        if request.names_from_input {
-            let added = pending.add_names(rt.alloc(), rt.stdin());
-            added.map_err(Stop::Input)?;
-        }
+        add_input(rt, request.names_from_input, &mut pending)?;
         let console = Console::new(rt, err, shows_progress && !request.quiet);
         Ok(Session {
             rt,
@@ -97,6 +131,7 @@ impl<'r, 'a, W: Sink, E: Sink> Session<'r, 'a, W, E> {
             out,
             console,
             pending,
+            cleared: None,
         })
     }
 
@@ -145,6 +180,20 @@ impl<'r, 'a, W: Sink, E: Sink> Session<'r, 'a, W, E> {
         Err(Stop::OutOfMemory)
     }
 
+    /// The next file that waits, if there is one, before it is opened: [`chosen`](Session::chosen)
+    /// says whether it is processed. None only where nothing waits.
+    pub fn next_waiting(&mut self) -> Result<Option<Next>, Stop>
+        ensures none { IfOk result (λ next. next ≡ None
+            → length self.new.pending.waiting.items ≡ 0) }
+    {
+        let next = self.pending.next(self.rt)?;
+        self.name_temporary()?;
+        if let Some(Next::Named(path)) = &next {
+            self.clear_beside(path.as_str())?;
+        }
+        Ok(next)
+    }
+
     /// The next file that is to be processed, if there is one: one that is chosen, and where it was
     /// found in a folder, a picture. Others are skipped: counted, and reported where they are
     /// pictures, videos or documents that are not read. None only where nothing waits.
@@ -153,9 +202,7 @@ impl<'r, 'a, W: Sink, E: Sink> Session<'r, 'a, W, E> {
             → length self.new.pending.waiting.items ≡ 0) }
     {
         for _ in 0..u64::MAX {
-            let next = self.pending.next(self.rt)?;
-            self.name_temporary()?;
-            let Some(next) = next else {
+            let Some(next) = self.next_waiting()? else {
                 return Ok(None);
             };
             if let Some(next) = self.chosen(next)? {
@@ -178,16 +225,42 @@ impl<'r, 'a, W: Sink, E: Sink> Session<'r, 'a, W, E> {
             let path = path.as_str();
             match self.remove_temporary(path) {
                 Ok(removed) => self.say(path, &fate_of(removed))?,
-                Err(cause) => {
-                    let alloc = self.rt.alloc();
-                    let what = format!(in alloc;
-                        "a temporary file that can't be removed: {cause}"
-                    )?;
-                    self.say(path, &what)?;
-                }
+                Err(cause) => self.say(path, &CantRemove(cause))?,
             }
         }
         Ok(())
+    }
+
+    // Removes what an interrupted run left beside a file that is named, where this run changes
+    // files. The folder of the last such file was looked at.
+    fn clear_beside(&mut self, path: &str) -> Result<(), Stop>
+        ensures { self.new.pending ≡ self.old.pending }
+    {
+        let folder = folder_of(path);
+        if !self.request.task.changes_files() || self.cleared.as_deref() == Some(folder) {
+            return Ok(());
+        }
+        let alloc = self.rt.alloc();
+        self.cleared = Some(String::from_str(alloc, folder)?);
+        for number in 0..MAX_RUNS {
+            let left = format!(in alloc; "{folder}/.mexaldor-{number}")?;
+            self.clear_left(left.as_str())?;
+        }
+        Ok(())
+    }
+
+    // Removes a temporary file, if it is there and no run writes it, and reports it.
+    fn clear_left(&mut self, path: &str) -> Result<(), Stop>
+        ensures { self.new.pending ≡ self.old.pending }
+    {
+        if fs::symlink_metadata(self.rt, path).is_err() {
+            return Ok(());
+        }
+        match remove_abandoned(self.rt, path) {
+            Ok(true) => self.say(path, &fate_of(Some(true))),
+            Ok(false) => Ok(()),
+            Err(cause) => self.say(path, &CantRemove(cause)),
+        }
     }
 
     // Removes a temporary file that no other run writes, and answers whether it was removed; none
@@ -202,15 +275,16 @@ impl<'r, 'a, W: Sink, E: Sink> Session<'r, 'a, W, E> {
         }
     }
 
-    // What is processed of a name: nothing where it is skipped.
-    fn chosen(&mut self, next: Next) -> Result<Option<Next>, Stop>
+    /// What is processed of a file that waited: nothing where it is skipped, which is counted and
+    /// reported as [`next_chosen`](Session::next_chosen) does.
+    pub fn chosen(&mut self, next: Next) -> Result<Option<Next>, Stop>
         ensures chosen { IfOk result (λ kept.
             IsChosen (next_file next) (option_map next_file kept)) }
         ensures waiting { self.new.pending.waiting ≡ self.old.pending.waiting }
     {
         match next {
             Next::Named(path) => {
-                if is_chosen(self.rt, self.request, path.as_str())? {
+                if is_chosen(self.rt, &self.request.choice, path.as_str())? {
                     Ok(Some(Next::Named(path)))
                 } else {
                     Ok(None)
@@ -233,7 +307,7 @@ impl<'r, 'a, W: Sink, E: Sink> Session<'r, 'a, W, E> {
         let found = found_in_folder(self.rt, path.as_str(), self.request.task.use_of_files());
         match found.step(self.request.task.moves_companions()) {
             FoundStep::Choose => {
-                if is_chosen(self.rt, self.request, path.as_str())? {
+                if is_chosen(self.rt, &self.request.choice, path.as_str())? {
                     Ok(Some(Next::Found(path)))
                 } else {
                     Ok(None)

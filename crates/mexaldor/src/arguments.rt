@@ -1,6 +1,6 @@
 //! The arguments of the program.
 
-use crate::changes::PLACES_ONLY;
+use crate::changes::places_only;
 use crate::options;
 use clap::{Arg, Command};
 use exif_session::ScrubOption;
@@ -185,6 +185,12 @@ fn scrub_flag<'a>(alloc: Global, option: ScrubOption, help: &'a str) -> Arg<'a> 
     options::flag(alloc, id, help)
 }
 
+// The other name of `--locations-only`.
+fn places_flag<'a>(alloc: Global) -> Arg<'a> {
+    let id: &'a str = places_only();
+    options::flag(alloc, id, "The same as --locations-only")
+}
+
 // A flag that conflicts with those that choose what goes.
 fn alone<'a>(flag: Arg<'a>) -> Result<Arg<'a>, AllocError> {
     flag.conflicts_with(ScrubOption::KeepOrientation.name())?
@@ -211,7 +217,7 @@ fn scrub<'a>(alloc: Global) -> Result<Command<'a>, AllocError> {
             ScrubOption::LocationsOnly,
             "Only erase locations, in place",
         ))?)?
-        .arg(alone(options::flag(alloc, PLACES_ONLY, "The same as --locations-only"))?)?
+        .arg(alone(places_flag(alloc))?)?
         .arg(scrub_flag(
             alloc,
             ScrubOption::ForceBlank,

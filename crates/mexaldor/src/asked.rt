@@ -1,7 +1,14 @@
 //! What the arguments request.
 
+ghost use Rattle.std.specs.Prelude.{◌≡◌, IfOk, codes};
+ghost use Rattle.mexaldor.specs.Asked.{asked_by, asked_seen, or_output, page_asked, page_seen, query_asked, request_of};
+ghost use Rattle.mexaldor.specs.Given.{text_in};
+ghost use Rattle.mexaldor.specs.Jobs.{check_asked, json_asked, show_asked};
+ghost use Rattle.mexaldor.specs.Views.{answer_by, answer_seen};
+
 use crate::arguments::subcommand;
 use crate::changes::{copy_of, scrub_of, set_of, shift_of};
+use crate::given::{is_set, text_of, text_or_empty};
 use crate::jobs::{catalog_of, geotag_of, rename_of, table_of, thumbnail_of, touch_of};
 use crate::selection::{Wrong, reading_of, request, words_of};
 use crate::tags::tags_in;
@@ -31,14 +38,8 @@ pub fn asked_of<'a>(alloc: Global, found: &ArgMatches<'a>) -> Result<Asked<'a>, 
             "expected a subcommand",
         )?);
     };
-    match name {
-        "tags" => return Ok(Asked::Tags),
-        "query" => return Ok(query_of(matches)),
-        "page" => return Ok(Asked::Page(paging_of(matches))),
-        _ => {}
-    }
-    match parsed(alloc, name, matches)? {
-        Ok(request) => Ok(Asked::Run(request)),
+    match asked_by(alloc, name, matches)? {
+        Ok(asked) => Ok(asked),
         Err(wrong) => {
             let mut command = subcommand(alloc, name)?;
             Err(command.error(ErrorKind::ValueValidation, wrong.as_str())?)
@@ -46,16 +47,49 @@ pub fn asked_of<'a>(alloc: Global, found: &ArgMatches<'a>) -> Result<Asked<'a>, 
     }
 }
 
-fn query_of<'a>(matches: &ArgMatches<'a>) -> Asked<'a> {
-    let database = matches.get_str("database").unwrap_or("");
-    Asked::Query(database, matches.get_str("sql").unwrap_or(""))
+// What a subcommand of this name asks for, or what is wrong with its words.
+fn asked_by<'a>(
+    alloc: Global,
+    name: &str,
+    matches: &ArgMatches<'a>,
+) -> Result<Result<Asked<'a>, Wrong>, AllocError>
+    ensures { IfOk result (λ answer. answer_by asked_seen answer ≡ asked_by name.now matches.now) }
+{
+    match name {
+        "tags" => Ok(Ok(Asked::Tags)),
+        "query" => Ok(Ok(query_of(matches))),
+        "page" => Ok(Ok(Asked::Page(paging_of(matches)))),
+        _ => match parsed(alloc, name, matches)? {
+            Ok(request) => Ok(Ok(Asked::Run(request))),
+            Err(wrong) => Ok(Err(wrong)),
+        },
+    }
 }
 
-fn paging_of<'a>(matches: &ArgMatches<'a>) -> Paging<'a> {
+fn query_of<'a>(matches: &ArgMatches<'a>) -> Asked<'a>
+    ensures { asked_seen result ≡ query_asked matches.now }
+{
+    let database = text_or_empty(matches, "database");
+    Asked::Query(database, text_or_empty(matches, "sql"))
+}
+
+// Where the page is written.
+fn output_of<'a>(matches: &ArgMatches<'a>) -> &'a str
+    ensures { result.now ≡ or_output (text_in matches.now (codes "out")) }
+{
+    match text_of(matches, "out") {
+        Some(out) => out,
+        None => "-",
+    }
+}
+
+fn paging_of<'a>(matches: &ArgMatches<'a>) -> Paging<'a>
+    ensures { page_seen result ≡ page_asked matches.now }
+{
     Paging {
-        database: matches.get_str("database").unwrap_or(""),
-        to: matches.get_str("out").unwrap_or("-"),
-        force: matches.get_flag("force"),
+        database: text_or_empty(matches, "database"),
+        to: output_of(matches),
+        force: is_set(matches, "force"),
     }
 }
 
@@ -63,7 +97,9 @@ fn parsed<'a>(
     alloc: Global,
     name: &str,
     matches: &ArgMatches<'a>,
-) -> Result<Result<Request<'a>, Wrong>, AllocError> {
+) -> Result<Result<Request<'a>, Wrong>, AllocError>
+    ensures { IfOk result (λ answer. answer_seen answer ≡ request_of name.now matches.now) }
+{
     match name {
         "json" => json_of(alloc, matches),
         "table" => table_of(alloc, matches),
@@ -84,22 +120,26 @@ fn parsed<'a>(
 fn show_of<'a>(
     alloc: Global,
     matches: &ArgMatches<'a>,
-) -> Result<Result<Request<'a>, Wrong>, AllocError> {
+) -> Result<Result<Request<'a>, Wrong>, AllocError>
+    ensures { IfOk result (λ answer. answer_seen answer ≡ show_asked matches.now) }
+{
     let files = words_of(alloc, matches)?;
-    let reading = reading_of(matches, matches.get_flag("full"));
+    let reading = reading_of(matches, is_set(matches, "full"));
     request(alloc, Task::Show(reading), matches, files)
 }
 
 fn json_of<'a>(
     alloc: Global,
     matches: &ArgMatches<'a>,
-) -> Result<Result<Request<'a>, Wrong>, AllocError> {
+) -> Result<Result<Request<'a>, Wrong>, AllocError>
+    ensures { IfOk result (λ answer. answer_seen answer ≡ json_asked matches.now) }
+{
     let files = words_of(alloc, matches)?;
     let reading = reading_of(matches, true);
-    if matches.get_flag("summary") {
+    if is_set(matches, "summary") {
         return request(alloc, Task::Summary(reading), matches, files);
     }
-    let Some(list) = matches.get_str("tags") else {
+    let Some(list) = text_of(matches, "tags") else {
         return request(alloc, Task::Json(reading, None), matches, files);
     };
     match tags_in(alloc, list)? {
@@ -111,12 +151,14 @@ fn json_of<'a>(
 fn check_of<'a>(
     alloc: Global,
     matches: &ArgMatches<'a>,
-) -> Result<Result<Request<'a>, Wrong>, AllocError> {
+) -> Result<Result<Request<'a>, Wrong>, AllocError>
+    ensures { IfOk result (λ answer. answer_seen answer ≡ check_asked matches.now) }
+{
     let files = words_of(alloc, matches)?;
-    let strict = matches.get_flag("strict");
+    let strict = is_set(matches, "strict");
     request(
         alloc,
-        Task::Check(form_by(matches.get_flag("json")), strict),
+        Task::Check(form_by(is_set(matches, "json")), strict),
         matches,
         files,
     )

@@ -1,5 +1,8 @@
 //! The words of the command line.
 
+ghost use Rattle.std.specs.Prelude.{◌≡◌, IfOk, map, string_bytes};
+ghost use Rattle.mexaldor.specs.Line.{is_set, spelled_word, words_for};
+
 use exif_decisions::{canonical_word, is_assignment, readable};
 use std::alloc::{AllocError, Global};
 use std::env::FillError;
@@ -23,21 +26,48 @@ pub fn words(rt: &HostRuntime) -> io::Result<Vec<String>> {
             Err(FillError::TooLong) => return Err(io::Error::from(ErrorKind::ArgumentListTooLong)),
         }
     }
-    match words.get(1) {
-        Some(command) if command.as_str() == "set" => Ok(spelled(rt.alloc(), words)?),
-        _ => Ok(words),
+    Ok(words_for(rt.alloc(), words)?)
+}
+
+// The words, by the subcommand that they name.
+fn words_for(alloc: Global, words: Vec<String>) -> Result<Vec<String>, AllocError>
+    ensures { IfOk result (λ all. map string_bytes all.items
+        ≡ words_for (map string_bytes words.items)) }
+{
+    if is_set(words.as_slice()) {
+        return spelled(alloc, words.as_slice());
+    }
+    Ok(words)
+}
+
+// Whether the word behind the name of the program is `set`.
+fn is_set(words: &[String]) -> bool
+    ensures { result ≡ is_set (map string_bytes words.now) }
+{
+    match words {
+        [_program, command, ..] => command.as_str() == "set",
+        _ => false,
     }
 }
 
-// The words of `set`, assignments with the names of tags as the standard spells them.
-fn spelled(alloc: Global, words: Vec<String>) -> Result<Vec<String>, AllocError> {
-    let mut spelled = Vec::new(alloc);
-    for word in words {
-        if is_assignment(word.as_str()) {
-            spelled.push(canonical_word(alloc, word.as_str())?)?;
-        } else {
-            spelled.push(word)?;
-        }
+// A word of `set`: an assignment has the name of its tag as the standard spells it.
+fn spelled_word(alloc: Global, word: &str) -> Result<String, AllocError>
+    ensures { IfOk result (λ text. string_bytes text ≡ spelled_word word.now) }
+{
+    if is_assignment(word) {
+        return canonical_word(alloc, word);
     }
-    Ok(spelled)
+    String::from_str(alloc, word)
+}
+
+// The words of `set`.
+fn spelled(alloc: Global, words: &[String]) -> Result<Vec<String>, AllocError>
+    ensures { IfOk result (λ all. map string_bytes all.items
+        ≡ map spelled_word (map string_bytes words.now)) }
+{
+    let mut all = Vec::new(alloc);
+    for word in words {
+        all.push(spelled_word(alloc, word.as_str())?)?;
+    }
+    Ok(all)
 }

@@ -1,5 +1,9 @@
 //! Tags by their names.
 
+ghost use Rattle.std.specs.Prelude.{◌≡◌, IfOk, string_bytes};
+ghost use Rattle.mexaldor.specs.Unknown.{tags_in, unknown_tag};
+ghost use Rattle.mexaldor.specs.Views.{answer_by};
+
 use crate::selection::Wrong;
 use exif::Tag;
 use exif_columns::tags_of;
@@ -7,7 +11,9 @@ use exif_decisions::{Escaped, nearest};
 use std::alloc::{AllocError, Global};
 
 /// The message about a tag that is not known.
-pub fn unknown_tag(alloc: Global, name: &str) -> Result<String, AllocError> {
+pub fn unknown_tag(alloc: Global, name: &str) -> Result<String, AllocError>
+    ensures { IfOk result (λ text. string_bytes text ≡ unknown_tag name.now) }
+{
     let shown = Escaped(name);
     match nearest(alloc, name)? {
         Some(tag) => format!(in alloc; "unknown tag '{shown}'; did you mean '{tag}'?"),
@@ -16,7 +22,9 @@ pub fn unknown_tag(alloc: Global, name: &str) -> Result<String, AllocError> {
 }
 
 /// The tags of a list of names with commas between them.
-pub fn tags_in(alloc: Global, list: &str) -> Result<Result<Vec<Tag>, Wrong>, AllocError> {
+pub fn tags_in(alloc: Global, list: &str) -> Result<Result<Vec<Tag>, Wrong>, AllocError>
+    ensures { IfOk result (λ answer. answer_by (λ tags. tags.items) answer ≡ tags_in list.now) }
+{
     match tags_of(alloc, list)? {
         Ok(tags) => Ok(Ok(tags)),
         Err(name) => Ok(Err(unknown_tag(alloc, name)?)),

@@ -1,0 +1,4 @@
+pub mod ChoosingLemmas
+pub mod LineLemmas
+pub mod PendingLemmas
+pub mod ShownLemmas

@@ -1,0 +1,10 @@
+pub mod Chosen
+pub mod Found
+pub mod Lines
+pub mod Naming
+pub mod Pending
+pub mod Progress
+pub mod Shown
+pub mod Thumbnails
+pub mod Uses
+pub mod Wished

@@ -1,0 +1,25 @@
+//! The files that the program `mexaldor` is given: which they are, how they are opened and read, and
+//! what is asked of one: its thumbnail, its stamp, its new name, whether it is chosen. And standard
+//! error, with a line of progress.
+#![tactic(auto)]
+
+mod choosing;
+mod console;
+mod inputs;
+mod lines;
+mod naming;
+mod pending;
+mod progress;
+mod stamps;
+mod thumbnails;
+mod wishes;
+
+pub use choosing::{exif_if_any, exif_of, is_chosen};
+pub use console::Console;
+pub use inputs::{Input, Use, found_in_folder, open, read, read_file};
+pub use lines::Lines;
+pub use naming::{NewName, name_by};
+pub use pending::{Next, Pending, Waiting};
+pub use stamps::{FileStamp, stamp_of};
+pub use thumbnails::{jpeg_of, thumbnail_of};
+pub use wishes::{absolute_by, folder_for, in_folder, sidecars_of, wish_for};

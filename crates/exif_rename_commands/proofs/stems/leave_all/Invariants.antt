@@ -1,0 +1,8 @@
+use Rattle.std.proofs.Common.{◌≡◌}
+use Rattle.exif_rename_commands.proofs.stems.leave_all.Given as goal
+
+abbrev pub invariant-loop-member : goal.invariant-loop-member
+invariant-loop-member g l = record {
+  waiting : l.session.pending.waiting ≡ l.initial.session.pending.waiting;
+  beside : l.session.pending.counts.beside ≡ l.initial.session.pending.counts.beside;
+}

@@ -1,0 +1,12 @@
+pub mod Backs
+pub mod Entries
+pub mod Gathered
+pub mod Members
+pub mod Moving
+pub mod Names
+pub mod Planned
+pub mod Present
+pub mod Same
+pub mod Stems
+pub mod Undone
+pub mod Words

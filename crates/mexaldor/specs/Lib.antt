@@ -1,0 +1,10 @@
+pub mod Asked
+pub mod Changes
+pub mod Choices
+pub mod Endings
+pub mod Given
+pub mod Jobs
+pub mod Line
+pub mod Requests
+pub mod Unknown
+pub mod Views
