@@ -89,8 +89,8 @@ struct mexaldor_answer mexaldor_check(const uint8_t *file, size_t length, uint8_
  * force_blank: overwrite XMP packets and IPTC data that can't be read, which stay otherwise. */
 uint32_t mexaldor_erase_locations(uint8_t *file, size_t length, bool force_blank);
 
-/* Writes a copy of a file without its metadata to `out`. JPEG, WebP and PNG files lose all metadata;
- * the colour profile and what decoders need stay. In HEIF, JPEG XL and TIFF files what is not the
+/* Writes a copy of a file without its metadata to `out`. JPEG, WebP, PNG and JPEG XL files lose all
+ * metadata; the colour profile and what decoders need stay. In HEIF and TIFF files what is not the
  * picture becomes zeros or empty data where it is; a raw file is refused, and so is a TIFF file whose
  * picture is stored in an unknown way. If parts that may hold metadata stay, the status is MEXALDOR_FAULTS, and
  * mexaldor_check lists them. The new file is not longer than the old one, except that a

@@ -178,8 +178,8 @@ def erase_locations(source: Source, force_blank: bool = False) -> "tuple[bytes, 
 def scrub(source: Source) -> bytes:
     """Return a copy of a file without its metadata.
 
-    JPEG, WebP and PNG files lose all metadata; the colour profile and what decoders need stay. In
-    HEIF, JPEG XL and TIFF files what is not the picture becomes zeros or empty data where it is;
+    JPEG, WebP, PNG and JPEG XL files lose all metadata; the colour profile and what decoders need
+    stay. In HEIF and TIFF files what is not the picture becomes zeros or empty data where it is;
     raw files are refused. Parts that may hold metadata and stay are listed by `check`. A JPEG stream that ends
     before its picture does is copied as far as it goes.
     """

@@ -31,9 +31,9 @@ pub extern "C" fn mexaldor_erase_gps(alloc: Global, file: &mut [u8]) -> u32
     }
 }
 
-/// Puts a file without its metadata into a buffer. JPEG, WebP and PNG files are written again
-/// without them; in HEIF, JPEG XL and TIFF files what is not the picture becomes zeros or empty
-/// data in place. The colour profile stays. Raw files are refused. The new file is no longer than
+/// Puts a file without its metadata into a buffer. JPEG, WebP, PNG and JPEG XL files are written
+/// again without them; in HEIF and TIFF files what is not the picture becomes zeros or empty data
+/// in place. The colour profile stays. Raw files are refused. The new file is no longer than
 /// the old one, but for a WebP file whose last payload lacks its pad byte, which it gets. The
 /// status is 1 where a part that may hold metadata stays, or where a file ends before its
 /// picture does, which is written as far as it goes. After a refusal the buffer is as it was.

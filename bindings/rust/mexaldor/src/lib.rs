@@ -195,8 +195,8 @@ pub fn erase_gps(file: &mut [u8]) -> Result<(), Refused> {
 
 /// Returns a copy of a file without its metadata.
 ///
-/// JPEG, WebP and PNG files lose all metadata; the colour profile and what decoders need stay. In
-/// HEIF, JPEG XL and TIFF files what is not the picture becomes zeros or empty data where it is; raw
+/// JPEG, WebP, PNG and JPEG XL files lose all metadata; the colour profile and what decoders need
+/// stay. In HEIF and TIFF files what is not the picture becomes zeros or empty data where it is; raw
 /// files are refused.
 /// [`check`] lists parts that may hold metadata and stay.
 pub fn scrub(file: &[u8]) -> Result<Vec<u8>, Refused> {
