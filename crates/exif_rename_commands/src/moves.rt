@@ -19,7 +19,8 @@ use exif_rename::{Attributes, Move, Moved, copy_file, move_file, write_line};
 use exif_session::{Session, Stop};
 use std::alloc::{AllocError, Global};
 use std::collections::BTreeSet;
-use std::fs;
+use std::fs::{self, File, TryLockError};
+use std::io::{self, ErrorKind};
 
 /// The folders that have new names which the disk may not have yet.
 #[derive(Drop)]
@@ -186,10 +187,27 @@ fn write_move<W: Sink, E: Sink>(
     session.answer(line.as_bytes())
 }
 
-// Moves or copies a file, into a folder that is made if it is not there.
+// Moves or copies a file, into a folder that is made if it is not there. Two runs side by side never
+// move one file at a time, so that the second finds it gone.
 fn move_one(rt: &HostRuntime, copy: bool, from: &str, to: &str) -> Result<Moved, WriteError> {
     fs::create_dir_all(rt, folder_of(to))?;
+    let _held = if copy { None } else { held(rt, from)? };
     give_name(rt.alloc(), &mut HostFiles::new(rt), copy, from, to)
+}
+
+// A file that is locked while it is moved; nothing where it can't be opened. Where the file system
+// has no locks it is moved without one.
+fn held(rt: &HostRuntime, path: &str) -> io::Result<Option<File>> {
+    let Ok(file) = File::open(rt, path) else {
+        return Ok(None);
+    };
+    match file.try_lock() {
+        Err(TryLockError::WouldBlock) => {
+            let why = "another program has it locked";
+            Err(io::Error::new(ErrorKind::WouldBlock, why))
+        }
+        Ok(()) | Err(TryLockError::Error(_)) => Ok(Some(file)),
+    }
 }
 
 // Gives a file or a copy of it another name. A move that an earlier run began is finished.
