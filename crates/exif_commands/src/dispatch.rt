@@ -8,7 +8,7 @@ ghost use Rattle.exif_commands.specs.Tasks.{goes_through, is_done_elsewhere, mak
 use crate::check::check_file;
 use crate::copying::copy_into_files;
 use crate::geotag::geotag_files;
-use crate::json::{write_object, write_summary};
+use crate::objects::{write_object, write_summary};
 use crate::show::show_file;
 use crate::table::{write_header, write_row};
 use crate::thumbnail::{write_thumbnail, write_thumbnails};

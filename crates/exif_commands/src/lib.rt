@@ -5,7 +5,7 @@ mod check;
 mod copying;
 mod dispatch;
 mod geotag;
-mod json;
+mod objects;
 mod reads;
 mod show;
 mod table;
