@@ -69,15 +69,28 @@ done
 says "and so does another folder" "0 added, 0 changed, 3 unchanged, 0 removed, 0 restored"
 gives "a picture that is named twice is read once" 0 "$mexaldor" catalog -r db many many/sample.jpg ./many/sample.jpg
 says "and counted once" "0 added, 0 changed, 3 unchanged, 0 removed, 0 restored"
-mkdir closed && cp files/plain.jpg closed/a.jpg && cp files/plain.jpg many/inner/b.jpg
-"$mexaldor" catalog -q -r rows many closed
-if [ "$(id -u)" != 0 ]; then
-    chmod 0 many/inner
-    gives "a folder that can't be read is reported" 1 "$mexaldor" catalog -r rows many
-    chmod 755 many/inner
-    check "and none of its rows is marked" test "$("$mexaldor" query rows 'SELECT count(*) FROM picture WHERE removed = 1' | tail -n +2)" = 0
+# a folder and a picture that can't be read
+find_nobody
+if [ -n "$nobody" ]; then
+    mkdir -p guarded/inner && cp files/plain.jpg guarded/a.jpg && cp files/plain.jpg guarded/inner/b.jpg
+    [ "$(id -u)" != 0 ] || chown -R 65534:65534 guarded
+    gives "a folder has rows" 0 $nobody "$mexaldor" catalog -q -r guarded/rows guarded
+    chmod 0 guarded/inner
+    gives "a folder that can't be read is reported" 1 $nobody "$mexaldor" catalog -r guarded/rows guarded
+    check "and none of its rows is marked" test "$($nobody "$mexaldor" query guarded/rows 'SELECT count(*) FROM picture WHERE removed = 1' | tail -n +2)" = 0
+    for command in 'show -r' 'json -r' 'check -r' 'set -r -i' 'rename -r {Name}'; do
+        words=
+        [ "$command" != 'set -r -i' ] || words=Orientation=1
+        gives "no success of $command" 1 $nobody "$mexaldor" $command guarded $words
+    done
+    chmod 755 guarded/inner
+    chmod 0 guarded/a.jpg
+    gives "a picture that can't be read is not renamed" 1 $nobody "$mexaldor" rename 'x_{Name}' guarded/a.jpg
+    check "it stays" test -e guarded/a.jpg
+    rm -r guarded
+else
+    echo "skipped, the program can't be run as nobody: a folder that can't be read"
 fi
-rm many/inner/b.jpg
 gives "a part of the folder is looked through" 0 "$mexaldor" catalog -q -r db many/inner
 is "the rows of others stay" "SELECT count(*) FROM picture WHERE removed = 0" "3"
 "$mexaldor" catalog -q -r hashed many
@@ -158,13 +171,7 @@ if has sqlite3; then
 fi
 
 # a catalogue that can be read and not written
-if [ "$(id -u)" = 0 ]; then
-    chmod 755 "$scratch"
-    nobody="setpriv --reuid=65534 --regid=65534 --clear-groups"
-    $nobody "$mexaldor" --version >out 2>err || nobody=
-else
-    nobody=env
-fi
+find_nobody
 if [ -n "$nobody" ]; then
     mkdir shelf
     cp db shelf/db

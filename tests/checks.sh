@@ -102,3 +102,14 @@ ends() {
     echo "$passed passed, $failed failed"
     [ "$failed" = 0 ]
 }
+
+# find_nobody: nobody runs a command as a user who owns no file here; it is empty where that can't be.
+find_nobody() {
+    if [ "$(id -u)" = 0 ]; then
+        chmod 755 "$scratch"
+        nobody="setpriv --reuid=65534 --regid=65534 --clear-groups"
+        $nobody "$mexaldor" --version >out 2>err || nobody=
+    else
+        nobody=env
+    fi
+}

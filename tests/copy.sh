@@ -48,10 +48,32 @@ check "the new ones are read" cmp expected found
 printf '\377\012\372\037' >naked.jxl
 gives "a codestream without a container gets none" 1 "$mexaldor" copy "$sample" naked.jxl
 says "by name" "naked.jxl: JPEG XL codestream without a container"
-cp files/plain.jxl packet.jxl
-gives "nor does a JPEG XL file get a packet" 1 "$mexaldor" copy --xmp files/xmp.png packet.jxl
-says "by name" "packet.jxl: packets and profiles are copied into JPEG, WebP and PNG files only"
-check "and it stays" cmp files/plain.jxl packet.jxl
+# a packet is a box of its type; those that a file has go, compressed or not, and its other boxes stay
+"$mexaldor" show --full files/xmp.png 2>/dev/null | tail -n +2 >packet.fields
+python3 -c '
+import sys
+
+sys.path.insert(0, sys.argv[1])
+from format_files import XMP, box
+
+print("xml ", box(b"xml ", XMP).hex())' "$root/tests" >packet.box
+for picture in plain xmp last; do
+    cp "files/$picture.jxl" packet.jxl
+    gives "a packet is put into $picture.jxl" 0 "$mexaldor" copy --xmp files/xmp.png packet.jxl
+    boxes packet.jxl >new
+    check "it is a box behind the Exif data" sh -c 'sed -n 4p new | cmp packet.box -'
+    check "which are behind the file's type" test "$(sed -n 3p new)" = "Exif "
+    boxes "files/$picture.jxl" | grep -v '^Exif\|^xml \|^brob 0000000e62726f62786d6c20' >old
+    check "it is the only one, and other boxes stay in their order" sh -c 'grep -v "^Exif\|^xml " new | cmp old -'
+    check "and is there once" test "$(grep -c '^xml ' new)" = 1
+    fields packet.jxl >found
+    check "the fields are those of the picture" cmp packet.fields found
+    if has exiftool; then
+        exiftool -b -XMP files/xmp.png >old
+        exiftool -b -XMP packet.jxl >new
+        check "exiftool finds that packet" cmp old new
+    fi
+done
 gives "data of other formats are found" 0 "$mexaldor" copy work/whole.webp work/plain.jpg
 fields work/whole.webp >expected
 fields work/plain.jpg >found
@@ -92,6 +114,10 @@ check "each" cmp folder/a.jpg folder/b.jpg
 check "and the old files are kept" cmp folder/a.jpg.orig files/plain.jpg
 # packets and profiles: python3 makes the pictures, and reads them
 python3 "$root/tests/blocks.py" make
+cp files/plain.jxl profile.jxl
+gives "a JPEG XL file gets no profile" 1 "$mexaldor" copy --icc full.jpg profile.jxl
+says "for its reason" "profile.jxl: no colour profile is put into a JPEG XL file, whose colours are in its codestream"
+check "and it stays" cmp files/plain.jxl profile.jxl
 for to in jpg png webp; do
     for from in jpg png webp; do
         cp "bare.$to" "new.$to"

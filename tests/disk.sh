@@ -36,14 +36,8 @@ fi
 
 # a read-only folder
 fresh
-if [ "$(id -u)" = 0 ]; then
-    chmod 755 "$scratch"
-    chown -R 65534:65534 work
-    nobody="setpriv --reuid=65534 --regid=65534 --clear-groups"
-    $nobody "$mexaldor" --version >out 2>err || nobody=
-else
-    nobody=env
-fi
+find_nobody
+[ "$(id -u)" != 0 ] || chown -R 65534:65534 work
 if [ -n "$nobody" ]; then
     chmod a-w work
     gives "a read-only folder is reported" 1 $nobody "$mexaldor" set -i work/whole.jpg Orientation=1

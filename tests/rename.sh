@@ -220,14 +220,43 @@ for pattern in '' '%' '%Q' '{' '{What}' 'a//b' '/a' '../a' '}'; do
     gives "the pattern '$pattern' is refused" 2 "$mexaldor" rename "$pattern" work/whole.jpg
 done
 
+# what a file has besides its bytes goes with it
+fresh
+if python3 -c 'import os; os.setxattr("work/whole.jpg", "user.note", b"kept")' 2>/dev/null; then
+    gives "a file with an attribute is renamed" 0 "$mexaldor" rename moved work/whole.jpg
+    check "it has it still" python3 -c 'import os; assert os.getxattr("work/moved.jpg", "user.note") == b"kept"'
+else
+    echo "skipped, files have no attributes here: $(basename "$0")"
+fi
+
+# a sidecar that is named besides its picture is moved once; where it can't be moved, its picture stays
+fresh
+printf "one" >work/whole.xmp
+gives "a picture and its sidecar are named" 0 "$mexaldor" rename once work/whole.jpg work/whole.xmp work/whole.jpg
+check "each has one line" test "$(wc -l <out)" = 2
+check "and its new name" test -e work/once.jpg -a "$(cat work/once.xmp)" = one
+if has flock; then
+    fresh
+    printf "one" >work/whole.xmp
+    flock work/whole.xmp sh -c 'touch work/held; sleep 3' &
+    until [ -e work/held ]; do sleep 0.05; done
+    gives "a sidecar that another program has locked" 1 "$mexaldor" rename once work/whole.jpg
+    says "is refused" "another program has it locked"
+    check "so both stay" test -e work/whole.jpg -a -e work/whole.xmp -a ! -e work/once.jpg -a ! -e work/once.xmp
+    wait
+fi
+
 # another file system
 if [ "$(stat -c %d /dev/shm 2>/dev/null)" != "$(stat -c %d .)" ] && other=$(mktemp -d -p /dev/shm 2>/dev/null); then
     fresh
     touch -d '2020-01-02 03:04:05' work/whole.jpg
     chmod 640 work/whole.jpg
+    [ "$(id -u)" != 0 ] || chown 1234:2345 work/whole.jpg
+    owner=$(stat -c '%u %g' work/whole.jpg)
     gives "a file is moved to another file system" 0 "$mexaldor" rename --into "$other" '{Name}' work/whole.jpg
     check "it is there" cmp files/whole.jpg "$other/whole.jpg"
     check "with its mode and time" test "$(stat -c '%a %Y' "$other/whole.jpg")" = "640 $(date -d '2020-01-02 03:04:05' +%s)"
+    check "and its owner" test "$(stat -c '%u %g' "$other/whole.jpg")" = "$owner"
     check "and no more here" test ! -e work/whole.jpg
     rm -r "$other"
 else

@@ -22,7 +22,7 @@
 //! ```
 //!
 //! Edits in place are in `exif_edit`, files written again in `exif_rewrite`, reports in
-//! `exif_report`, JSON in `exif_json`.
+//! `exif_reader::report`, JSON in `exif_json`.
 #![tactic(auto)]
 
 pub mod experimental;

@@ -2,7 +2,7 @@
 
 use exif::experimental::Writer;
 use exif::{Counted, Error, Exif, Reader, Seekable};
-use exif_report::report;
+use exif_reader::report::report;
 use std::alloc::Global;
 use std::io::Cursor;
 

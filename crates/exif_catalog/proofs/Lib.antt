@@ -1,8 +1,10 @@
+pub mod Counting
 pub mod Encodings
 pub mod Finding
 pub mod Moves
 pub mod Reading
 pub mod Rowwise
+pub mod Showing
 pub mod Streaming
 pub mod Tabs
 pub mod Types

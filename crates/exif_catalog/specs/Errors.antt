@@ -19,6 +19,10 @@ abbrev pub database_error : Error → CatalogError
 database_error (SqliteFailure code.OutOfMemory) = error.OutOfMemory
 database_error e = error.Database e
 
+-- the failure of a database
+abbrev pub IsFailure : CatalogError → Type 0
+IsFailure e = (why : Error) × (e ≡ database_error why)
+
 -- it is one by which a database is not opened
 abbrev pub IsOpenFailure : CatalogError → Type 0
 IsOpenFailure e = (why : Error) × IsTrue (is_open_error why) × (e ≡ database_error why)

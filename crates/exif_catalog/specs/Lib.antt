@@ -4,6 +4,7 @@ pub mod Parameters
 pub mod Schema
 pub mod Statements
 pub mod Heads
+pub mod Jobs
 pub mod Copies
 pub mod Known
 pub mod Moves

@@ -1,5 +1,5 @@
 -- The texts of values that SQLite answers.
-use Rattle.std.specs.Prelude.{◌≡◌, ℕ, List, [], ◌∷◌, ◌++◌, codes, Option, Some, None, IsSome, map, option_and_then, option_map, slice_get, unwrap_or, ⊤}
+use Rattle.std.specs.Prelude.{◌≡◌, ℕ, List, [], ◌∷◌, ◌++◌, codes, Option, Some, None, IsSome, length, map, option_and_then, option_map, slice_get, unwrap_or, ⊤}
 use Rattle.std.specs.String.{string_bytes}
 use Rattle.std.specs.Fmt.{signed_decimal}
 use Rattle.std.specs.List.{join_with_byte}
@@ -15,7 +15,7 @@ use Rattle.sqlite.specs.State.{IsUnchanged}
 use Rattle.sqlite.specs.Steps.{Outlines}
 use Rattle.sqlite.specs.Store.{Ghosts}
 use Rattle.exif_catalog.specs.Cells.{gap_before, names_line, tsv_field}
-use Rattle.exif_catalog.specs.Reading.{HandsEach}
+use Rattle.exif_catalog.specs.Reading.{HandsEach, Steps}
 use Rattle.exif_catalog.specs.Values.{text_of}
 use Rattle.exif_catalog.specs.declared.visiting.PictureRow.{PictureRow}
 use Rattle.exif_catalog.specs.declared.visiting.Texts.{Texts}
@@ -110,3 +110,9 @@ Answers {S} {X} g takes sql old new was is count =
     × Outlines (understood old.schema sql) columns × IsUnchanged (state g old) (state g begun)
     × takes was (names_line columns.columns ++ codes "\n") named
     × HandsEach g (HandsLine takes) sql begun new named is count
+
+-- so many pictures were shown, one after the other
+abbrev pub ShowsEach : {X : Type 0} → (X → List (Option (List ℕ)) → X → Type 0) → X → ℕ → X
+    → Type 0
+ShowsEach Visits old count new = (rows : List (List (Option (List ℕ))))
+    × (count ≡ length rows) × Steps Visits old rows new

@@ -1,5 +1,5 @@
 -- What a run did with the rows.
-use Rattle.std.specs.Prelude.{ℕ, ◌+◌, ◌-◌, ◌^◌, min, Bool, true, false, Option, Some, None}
+use Rattle.std.specs.Prelude.{ℕ, ◌+◌, ◌-◌, ◌^◌, min, Bool, true, false, List, [], ◌∷◌, Option, Some, None}
 use Rattle.exif_catalog.specs.declared.totals.Outcome.{Outcome}
 use Rattle.exif_catalog.specs.declared.totals.Outcome.TheVariants as outcome
 use Rattle.exif_catalog.specs.declared.totals.Totals.{Totals}
@@ -31,6 +31,28 @@ counted totals outcome.Added = record totals { added = more totals.added }
 counted totals outcome.Changed = record totals { changed = more totals.changed }
 counted totals outcome.Unchanged = record totals { unchanged = more totals.unchanged }
 counted totals outcome.Refused = record totals { refused = more totals.refused }
+
+-- what became of a file, if it is a picture
+abbrev pub counted_if : Totals → Option Outcome → Totals
+counted_if totals None = totals
+counted_if totals (Some it) = counted totals it
+
+-- nothing yet
+abbrev pub no_totals : Totals
+no_totals = record {
+  added = 0;
+  moved = 0;
+  changed = 0;
+  unchanged = 0;
+  refused = 0;
+  removed = 0;
+  restored = 0;
+}
+
+-- what became of files, one after the other
+abbrev pub counted_all : Totals → List (Option Outcome) → Totals
+counted_all totals [] = totals
+counted_all totals (it ∷ outcomes) = counted_all (counted_if totals it) outcomes
 
 -- a row more that is marked as removed, or whose mark is taken off
 abbrev pub marked : Totals → Bool → Totals

@@ -1,12 +1,12 @@
 //! The database file of a catalogue.
 
-ghost use Rattle.std.specs.Prelude.{◌≡◌, ◌⊎◌, [], Ok, Err, string_bytes, IfErr, IfOk, OnOk, map};
+ghost use Rattle.std.specs.Prelude.{◌≡◌, ◌⊎◌, [], Ok, Err, Result, string_bytes, IfErr, IfOk, OnOk, map};
 ghost use Rattle.sqlite_value.specs.Order.{Row as SqlRow};
 ghost use Rattle.sqlite.specs.Held.{state};
 ghost use Rattle.sqlite.specs.State.{CommitsBy, HasCleanDisk, IsNotRun, IsUnchanged, Survives};
 ghost use Rattle.sqlite.specs.Listing.{understood};
 ghost use Rattle.sqlite.specs.Steps.{Outlines};
-ghost use Rattle.exif_catalog.specs.Errors.{database_error};
+ghost use Rattle.exif_catalog.specs.Errors.{IsFailure, database_error};
 ghost use Rattle.exif_catalog.specs.Statements.{Asks, AsksCatalog, AsksTable, AsksVersion, Begins, ByTables, ChecksAs, Commits, FindsTables, IsText, MakesRest, MakesTables, PreparesAs, Runs, number_at, read_create, read_version, table_answer, text_at, texts_at, version_answer};
 
 use crate::errors::{CatalogError, RunError};
@@ -20,6 +20,7 @@ use std::alloc::Global;
 
 // Runs a statement that has no parameters.
 fn execute<S: Alter>(database: &mut Connection<S>, sql: &str) -> Result<(), CatalogError>
+    ensures failed { IfErr result IsFailure }
     ensures runs { HasCleanDisk (state S.Store database.new)
         → Runs S.Store sql.now database.old database.new result }
     ensures survives { Survives (state S.Store database.old) (state S.Store database.new)
@@ -31,6 +32,7 @@ fn execute<S: Alter>(database: &mut Connection<S>, sql: &str) -> Result<(), Cata
 
 /// Begins a transaction.
 pub(crate) fn begin<S: Alter>(database: &mut Connection<S>) -> Result<(), CatalogError>
+    ensures failed { IfErr result IsFailure }
     ensures runs { HasCleanDisk (state S.Store database.new)
         → Begins S.Store database.old database.new result }
 {
@@ -253,16 +255,22 @@ pub(crate) fn check_tables<S: Alter>(
 
 /// What is done with a database, in a transaction.
 pub(crate) trait Job {
+    ghost use Rattle.exif_catalog.specs.declared.errors.RunError.{RunError};
+
     /// What it answers.
     type Answer;
 
     /// Why its caller ends it.
     type Error;
 
+    /// What it is before it is done, what it answers, and what it is then.
+    ghost does: { Self → Result Self.Answer (RunError Self.Error) → Self → Type 0 } = { λ _ _ _. Unit {0} };
+
     /// Does it. What it wrote is kept only if it ends the transaction itself.
     fn run<S: Alter>(
         &mut self,
         alloc: Global,
         database: &mut Connection<S>,
-    ) -> Result<Self::Answer, RunError<Self::Error>>;
+    ) -> Result<Self::Answer, RunError<Self::Error>>
+        ensures done { does self.old result self.new };
 }

@@ -2,7 +2,8 @@
 
 ghost use Rattle.std.specs.Prelude.{◌≡◌, IsTrue, false, true};
 ghost use Rattle.exif_catalog.specs.Copies.{is_cause};
-ghost use Rattle.exif_catalog.specs.Errors.{database_error, is_closed};
+ghost use Rattle.exif_catalog.specs.Errors.{IsFailure, database_error, is_closed};
+ghost use Rattle.exif_catalog.specs.Jobs.{IsDone, IsNotOpened, IsNotRead};
 
 use crate::copies::{check_names, copy_of, memory_database};
 use crate::database::{Job, begin};
@@ -16,7 +17,9 @@ fn run_inside<S: Alter, J: Job>(
     alloc: Global,
     database: &mut Connection<S>,
     job: &mut J,
-) -> Result<J::Answer, RunError<J::Error>> {
+) -> Result<J::Answer, RunError<J::Error>>
+    ensures done { IsDone J.does IsFailure job.old result job.new }
+{
     begin(database)?;
     job.run(alloc, database)
 }
@@ -36,6 +39,7 @@ fn cause_of(rt: &HostRuntime, path: &str) -> CatalogError
 
 // Which error it is that a database was not opened.
 fn failure_of(rt: &HostRuntime, path: &str, error: Error) -> CatalogError
+    ensures named { IsNotOpened result }
     ensures cause { is_closed error ≡ true → IsTrue (is_cause result) }
     ensures other { is_closed error ≡ false → result ≡ database_error error }
 {
@@ -52,7 +56,9 @@ pub(crate) fn run_job<J: Job>(
     rt: &HostRuntime,
     path: &str,
     job: &mut J,
-) -> Result<J::Answer, RunError<J::Error>> {
+) -> Result<J::Answer, RunError<J::Error>>
+    ensures done { IsDone J.does IsNotOpened job.old result job.new }
+{
     let mut database = match Connection::open(rt, path) {
         Ok(database) => database,
         Err(error) => return Err(RunError::Catalog(failure_of(rt, path, error))),
@@ -70,7 +76,9 @@ pub(crate) fn run_reading<J: Job>(
     rt: &HostRuntime,
     path: &str,
     job: &mut J,
-) -> Result<J::Answer, RunError<J::Error>> {
+) -> Result<J::Answer, RunError<J::Error>>
+    ensures done { IsDone J.does IsNotRead job.old result job.new }
+{
     let mut database = match Connection::open(rt, path) {
         Ok(database) => database,
         Err(Error::SqliteFailure(ErrorCode::CannotOpen)) => return run_copied(rt, path, job),
@@ -86,7 +94,9 @@ fn run_copied<J: Job>(
     rt: &HostRuntime,
     path: &str,
     job: &mut J,
-) -> Result<J::Answer, RunError<J::Error>> {
+) -> Result<J::Answer, RunError<J::Error>>
+    ensures done { IsDone J.does IsNotRead job.old result job.new }
+{
     let files = copy_of(rt, path)?;
     let mut database = memory_database(rt.alloc(), files)?;
     let answer = run_inside(rt.alloc(), &mut database, job);

@@ -1,12 +1,12 @@
 //! A run over a catalogue, from its first picture to its end.
 
-ghost use Rattle.std.specs.Prelude.{◌≡◌, ◌&&◌, ℕ, List, [], false, nat_lt, All, Contains, IfOk, IfSome, None, OnErr, string_bytes};
+ghost use Rattle.std.specs.Prelude.{◌≡◌, ◌&&◌, ℕ, Bool, List, [], Option, false, nat_lt, All, Contains, IfOk, IfSome, None, OnErr, OnOk, string_bytes};
 ghost use Rattle.exif_catalog.specs.Runs.{has_stamp_of, known_after, known_at, marks_in, moved_times};
-ghost use Rattle.exif_catalog.specs.Totals.{is_kept};
+ghost use Rattle.exif_catalog.specs.Totals.{counted_all, counted_if, is_kept, no_totals};
 
 use crate::catalog::Catalog;
 use crate::database::{Job, commit};
-use crate::errors::{CatalogError, RunError};
+use crate::errors::{CatalogError, RunError, too_many};
 use crate::hashes::Move;
 use crate::heads::check_new;
 use crate::known::Stamp;
@@ -51,16 +51,29 @@ pub trait Pictures {
     /// Why the run is to end before the last file.
     type Error: Drop;
 
+    /// What holds behind the last file.
+    ghost ends: { Self → Type 0 } = { λ _. Unit {0} };
+
+    /// Whether rows are to have hashes.
+    ghost hashes: { Self → Bool };
+
+    /// The names of the references that it holds, the outermost first.
+    ghost through: { Self → List ℕ } = { λ _. [] };
+
     /// The next file that may be a picture, or `None` behind the last. It need not be opened: where
     /// its stamp is that of its row, it is a picture, and nothing more is asked of it.
-    fn next(&mut self) -> Result<Option<Found>, Self::Error>;
+    fn next(&mut self) -> Result<Option<Found>, Self::Error>
+        ensures ended { IfOk result (λ found. found ≡ None → ends self.new) }
+        ensures same { through self.new ≡ through self.old };
 
     /// Whether rows are to have the hash of their file's bytes.
-    fn needs_hash(&self) -> bool;
+    fn needs_hash(&self) -> bool
+        ensures { result ≡ hashes self.now };
 
     /// What the file that `next` gave last has for its row. It is asked only where the file has no
     /// row, or not the stamp of the row, or the row lacks a hash that is needed.
-    fn row(&mut self) -> Result<FileRow, Self::Error>;
+    fn row(&mut self) -> Result<FileRow, Self::Error>
+        ensures same { through self.new ≡ through self.old };
 
     /// Whether all that is below a root was looked through, asked behind the last file. Where it
     /// was not, as where a folder could not be read, no row below the root is marked as removed.
@@ -82,6 +95,7 @@ fn take<S: Alter, P: Pictures>(
         ≡ has_stamp_of (known_at catalog.old (string_bytes found.now.path)) found.now.stamp) }
     ensures other { IfOk result (λ outcome. outcome ≡ None → catalog.new ≡ catalog.old) }
     ensures failed { OnErr result (catalog.new ≡ catalog.old) }
+    ensures same { P.through pictures.new ≡ P.through pictures.old }
 {
     let path = found.path.as_str();
     if catalog.is_unchanged(path, found.stamp) {
@@ -152,24 +166,54 @@ fn end<S: Alter>(
     Ok(Updated { totals, moves })
 }
 
+// What was counted, with what became of a file that is a picture.
+fn counted_if(totals: Totals, outcome: Option<Outcome>) -> Totals
+    ensures { result ≡ counted_if totals outcome }
+{
+    match outcome {
+        Some(outcome) => totals.counted(outcome),
+        None => totals,
+    }
+}
+
+// Brings the row of each file up to date, and counts what became of them.
+fn take_each<S: Alter, P: Pictures>(
+    alloc: Global,
+    database: &mut Connection<S>,
+    catalog: &mut Catalog,
+    pictures: &mut P,
+) -> Result<Totals, RunError<P::Error>>
+    ensures ended { OnOk result (P.ends pictures.new) }
+    ensures counted { IfOk result
+        (λ totals. (outcomes : List (Option Outcome))
+        × (totals ≡ counted_all no_totals outcomes)) }
+    ensures same { P.through pictures.new ≡ P.through pictures.old }
+{
+    let mut totals = Totals::NONE;
+    'files: for _ in 0..u64::MAX {
+        let Some(found) = pictures.next().map_err(RunError::Caller)? else {
+            return Ok(totals);
+        };
+        totals = counted_if(totals, take(alloc, database, catalog, pictures, &found)?);
+    }
+    Err(RunError::Catalog(too_many()))
+}
+
 // Brings all rows up to date.
 fn take_all<S: Alter, P: Pictures>(
     alloc: Global,
     database: &mut Connection<S>,
     roots: &[&str],
     pictures: &mut P,
-) -> Result<Updated, RunError<P::Error>> {
+) -> Result<Updated, RunError<P::Error>>
+    ensures ended { OnOk result (P.ends pictures.new) }
+    ensures moves { P.hashes pictures.old ≡ false
+        → IfOk result (λ all. all.moves.items ≡ []) }
+    ensures same { P.through pictures.new ≡ P.through pictures.old }
+{
     let needs_hash = pictures.needs_hash();
     let mut catalog = Catalog::open(alloc, database, needs_hash)?;
-    let mut totals = Totals::NONE;
-    for _ in 0..u64::MAX {
-        let Some(found) = pictures.next().map_err(RunError::Caller)? else {
-            break;
-        };
-        if let Some(outcome) = take(alloc, database, &mut catalog, pictures, &found)? {
-            totals = totals.counted(outcome);
-        }
-    }
+    let totals = take_each(alloc, database, &mut catalog, pictures)?;
     let whole = whole_roots(alloc, roots, pictures)?;
     Ok(end(
         alloc,
@@ -193,6 +237,12 @@ impl<P: Pictures> Job for UpdateJob<'_, P> {
 
     type Error = P::Error;
 
+    ghost does = { λ old result new.
+        OnOk result (P.ends new.pictures.now)
+        × (P.hashes old.pictures.now ≡ false → IfOk result (λ all. all.moves.items ≡ []))
+        × (P.through new.pictures.now ≡ P.through old.pictures.now)
+        × (new.pictures.ghost_name ≡ old.pictures.ghost_name) };
+
     fn run<S: Alter>(
         &mut self,
         alloc: Global,
@@ -214,13 +264,19 @@ impl<P: Pictures> Job for UpdateJob<'_, P> {
 /// tables, is refused and left as it is. No other program can read or write the file until the run
 /// ends.
 ///
-/// The run is one transaction: after an error the rows are as they were before.
+/// The run is one transaction: after an error the rows are as they were before. It ends only behind
+/// the last file, and finds moves only where hashes are needed.
 pub fn update<P: Pictures>(
     rt: &HostRuntime,
     path: &str,
     roots: &[&str],
     pictures: &mut P,
-) -> Result<Updated, RunError<P::Error>> {
+) -> Result<Updated, RunError<P::Error>>
+    ensures ended { OnOk result (P.ends pictures.new) }
+    ensures moves { P.hashes pictures.old ≡ false
+        → IfOk result (λ all. all.moves.items ≡ []) }
+    ensures same { P.through pictures.new ≡ P.through pictures.old }
+{
     check_new(rt, path)?;
     run_job(rt, path, &mut UpdateJob { roots, pictures })
 }

@@ -6,7 +6,7 @@ ghost use Rattle.sqlite.specs.State.{CommitsShowing, HasCleanDisk, Survives};
 ghost use Rattle.exif_catalog.specs.Errors.{is_hand_error};
 ghost use Rattle.exif_catalog.specs.Reading.{FailsToHand, HandsEach};
 ghost use Rattle.exif_catalog.specs.Schema.{pictures_text, shown_columns};
-ghost use Rattle.exif_catalog.specs.Shown.{AllOf, HandsPicture, IsShown, Shows, row_texts, text_at, texts_of_row};
+ghost use Rattle.exif_catalog.specs.Shown.{AllOf, HandsPicture, IsShown, ShowsEach, Shows, row_texts, text_at, texts_of_row};
 
 use crate::database::{Job, check_tables};
 use crate::errors::{CatalogError, RunError, too_many};
@@ -142,6 +142,7 @@ fn visit_rows<S: Alter, V: Visitor>(
         × FailsToHand S.Store (pictures_text shown_columns) database.old database.new why)) }
     ensures survives { Survives (state S.Store database.old) (state S.Store database.new)
         (CommitsShowing (pictures_text shown_columns) [] (state S.Store database.old)) }
+    ensures shown { IfOk result (λ count. ShowsEach V.visits visitor.old count visitor.new) }
 {
     let mut answer = database.query(pictures_text(), &[])?;
     'rows: for count in 0..u64::MAX {
@@ -164,6 +165,10 @@ impl<V: Visitor> Job for VisitJob<'_, V> {
 
     type Error = V::Error;
 
+    ghost does = { λ old result new.
+        IfOk result (λ count. ShowsEach V.visits old.visitor.now count new.visitor.now)
+        × (new.visitor.ghost_name ≡ old.visitor.ghost_name) };
+
     fn run<S: Alter>(
         &mut self,
         alloc: Global,
@@ -182,7 +187,9 @@ pub fn visit<V: Visitor>(
     rt: &HostRuntime,
     path: &str,
     visitor: &mut V,
-) -> Result<u64, RunError<V::Error>> {
+) -> Result<u64, RunError<V::Error>>
+    ensures shown { IfOk result (λ count. ShowsEach V.visits visitor.old count visitor.new) }
+{
     check_existing(rt, path)?;
     run_reading(rt, path, &mut VisitJob { visitor })
 }

@@ -1,3 +1,4 @@
+pub mod Gathering
 pub mod Pages
 pub mod Reports
 pub mod Rows

@@ -1,7 +1,12 @@
 -- What a page shows of a picture.
-use Rattle.std.specs.Prelude.{ℕ, List, codes, Option, Some, None, Result, Ok, Err, string_bytes}
+use Rattle.std.specs.Prelude.{◌≡◌, ◌⊎◌, ℕ, List, ◌++◌, codes, Option, Some, None, Result, Ok, Err, slice_get, string_bytes}
 use Rattle.std.specs.Borrow.{Bor}
 use Rattle.exif_catalog.specs.declared.visiting.PictureRow.{PictureRow}
+use Rattle.exif_files.specs.declared.outcome.Status.TheVariants.{Incomplete}
+use Rattle.exif_page.specs.Pages.{end_html, entry_html, foot_html}
+use Rattle.exif_page.specs.Sections.{section_of}
+use Rattle.exif_page.specs.Thumbnails.{thumbnail_html}
+use Rattle.exif_page.specs.declared.entries.Entry.{Entry}
 use Rattle.exif_page.specs.declared.entries.Thumbnail as page
 use Rattle.exif_page.specs.declared.entries.Thumbnail.TheVariants.{Line}
 use Rattle.exif_page.specs.declared.entries.Thumbnail.TheVariants as seen
@@ -14,6 +19,7 @@ use Rattle.exif_thumbnails.specs.declared.reading.Thumbnail.{Thumbnail}
 use Rattle.exif_thumbnails.specs.declared.reading.Thumbnail.TheVariants.{Jpeg, TooLong, CutOff, Item}
 use Rattle.exif_types.specs.Failures.{Failure}
 use Rattle.exif_types.specs.declared.error.Error.TheVariants as error
+use Rattle.exif_catalog_commands.specs.declared.page.Parts.{Parts}
 use Rattle.exif_catalog_commands.specs.declared.page.LastSection.{LastSection}
 use Rattle.exif_catalog_commands.specs.declared.page.LastSection.TheVariants as last
 
@@ -80,3 +86,28 @@ found_in (Err (error.NotSupported text)) = Err (error.NotSupported text)
 found_in (Err (error.UnexpectedValue text)) = Err (error.UnexpectedValue text)
 found_in (Err (error.PartialResult partial)) = Err (error.PartialResult partial)
 found_in (Err error.OutOfMemory) = Err error.OutOfMemory
+
+-- ---- the page
+
+-- an entry is added to the section that is open, and the data of its thumbnail to those before
+pub record AddsEntry (old : Parts) (entry : Entry) (new : Parts) : Type 0 where
+  pub before : Section
+  pub is_open : section_as before ≡ last_as old.section
+  pub html : new.html.items ≡ old.html.items ++ entry_html before entry
+  pub thumbnails : new.thumbnails.items ≡ old.thumbnails.items ++ thumbnail_html entry.thumbnail
+  pub section : last_as new.section ≡ section_as (section_of entry)
+  pub worst : new.worst ≡ old.worst
+
+-- that of the picture of a row is, and its file may be one that can't be read
+pub record AddsPicture (old : Parts) (row : List (Option (List ℕ))) (new : Parts) : Type 0 where
+  pub entry : Entry
+  pub path : slice_get row 0 ≡ Some (Some entry.path.now)
+  pub seen : Parts
+  pub is_seen : seen ≡ record old { worst = seen.worst }
+  pub worst : (seen.worst ≡ old.worst) ⊎ (seen.worst ≡ Incomplete)
+  pub added : AddsEntry seen entry new
+
+-- a whole page: the entries, the foot, the data of the thumbnails and the end
+abbrev pub IsWhole : Parts → List ℕ → Type 0
+IsWhole parts page = (before : Section) × (section_as before ≡ last_as parts.section)
+    × (page ≡ parts.html.items ++ (foot_html before ++ (parts.thumbnails.items ++ end_html)))

@@ -3,6 +3,7 @@
 #![tactic(auto)]
 
 mod catalog;
+mod gathering;
 mod page;
 mod query;
 mod reports;

@@ -1,11 +1,14 @@
 //! A page that shows the pictures of a catalogue.
 
-ghost use Rattle.std.specs.Prelude.{◌≡◌, ◌⊎◌, ◌++◌, Err, IfOk, IsErr, IsSome, string_bytes};
+ghost use Rattle.std.specs.Prelude.{◌≡◌, ◌⊎◌, ◌++◌, List, Err, IfOk, IsErr, IsSome, OnOk, codes, string_bytes};
+ghost use Rattle.exif_catalog.specs.Shown.{row_texts};
 ghost use Rattle.exif_decisions.specs.Paths.{slash_after};
 ghost use Rattle.exif_files.specs.Statuses.{code};
-ghost use Rattle.exif_files.specs.declared.outcome.Status.TheVariants.{Incomplete, Refused};
+ghost use Rattle.exif_files.specs.declared.outcome.Status.TheVariants.{Incomplete, Refused, Success};
+ghost use Rattle.exif_page.specs.Pages.{page_html};
+ghost use Rattle.exif_page.specs.declared.entries.Entry.{Entry};
 ghost use Rattle.exif_types.specs.declared.error.Error.TheVariants.{OutOfMemory};
-ghost use Rattle.exif_catalog_commands.specs.Pages.{facts_of, found_in, item_line, last_as, section_as, seen_as, shown};
+ghost use Rattle.exif_catalog_commands.specs.Pages.{AddsEntry, AddsPicture, IsWhole, facts_of, found_in, item_line, last_as, section_as, seen_as, shown};
 ghost use Rattle.exif_session.specs.Statuses.{IsStatus};
 
 use crate::reports::{refusal_of, visit_refusal};
@@ -15,7 +18,7 @@ use exif_decisions::slash_after;
 use exif_files::{Status, folder_of};
 use exif_inputs::{Console, thumbnail_of};
 use exif_page::{
-    Exposure, Facts, Section, Thumbnail as Shown, end_html, entry_html, entry_of, foot_html,
+    Entry, Exposure, Facts, Section, Thumbnail as Shown, end_html, entry_html, entry_of, foot_html,
     head_html, link_to, section_of, texts_of, thumbnail_html,
 };
 use exif_session::{Paging, Stop, absolute_of, out_of, write_out};
@@ -24,16 +27,22 @@ use std::alloc::{AllocError, Global};
 
 // The page as far as it goes.
 #[derive(Drop)]
+struct Parts {
+    html: Vec<u8>,
+    // the data of the thumbnails so far, which are behind all entries
+    thumbnails: Vec<u8>,
+    section: LastSection,
+    worst: Status,
+}
+
+// What shows the pictures.
+#[derive(Drop)]
 struct Page<'t, 'p, 'r, E> {
     rt: &'t HostRuntime,
     console: &'p mut Console<'r, E>,
-    html: Vec<u8>,
-    // the data of the thumbnails so far, which are behind all entries
-    data: Vec<u8>,
-    section: LastSection,
     // the folder of the page, which ends with a slash
     folder: String,
-    worst: Status,
+    parts: Parts,
 }
 
 // The section that is open.
@@ -64,6 +73,50 @@ impl LastSection {
             Section::Undated => Ok(LastSection::Undated),
         }
     }
+}
+
+impl Parts {
+    // Adds the entry of a picture.
+    fn add(&mut self, alloc: Global, entry: &Entry<'_>) -> Result<(), AllocError>
+        ensures { OnOk result (AddsEntry self.old entry.now self.new) }
+    {
+        let html = entry_html(alloc, self.section.section(), entry)?;
+        self.html.extend_from_slice(html.as_slice())?;
+        let data = thumbnail_html(alloc, entry.thumbnail)?;
+        self.thumbnails.extend_from_slice(data.as_slice())?;
+        self.section = LastSection::of(alloc, section_of(entry))?;
+        Ok(())
+    }
+
+    // The whole page: the entries, the foot, the data of the thumbnails and the end.
+    fn whole(self, alloc: Global) -> Result<Vec<u8>, AllocError>
+        ensures { IfOk result (λ page. IsWhole self page.items) }
+    {
+        let foot = foot_html(alloc, self.section.section())?;
+        let end = end_html(alloc)?;
+        joined(
+            self.html,
+            foot.as_slice(),
+            self.thumbnails.as_slice(),
+            end.as_slice(),
+        )
+    }
+}
+
+// The entries, and what is behind them.
+fn joined(
+    mut html: Vec<u8>,
+    foot: &[u8],
+    thumbnails: &[u8],
+    end: &[u8],
+) -> Result<Vec<u8>, AllocError>
+    ensures { IfOk result
+        (λ page. page.items ≡ html.items ++ (foot.now ++ (thumbnails.now ++ end.now))) }
+{
+    html.extend_from_slice(foot)?;
+    html.extend_from_slice(thumbnails)?;
+    html.extend_from_slice(end)?;
+    Ok(html)
 }
 
 // What a row says of its picture.
@@ -107,15 +160,18 @@ fn found_in(
 impl<E: Sink> Page<'_, '_, '_, E> {
     // The thumbnail in a file, if it has one. A file that can't be read is reported.
     fn thumbnail_in(&mut self, path: &str) -> Result<Option<Thumbnail>, AllocError>
-        ensures worst { (self.new.worst ≡ self.old.worst) ⊎ (self.new.worst ≡ Incomplete) }
+        ensures worst { (self.new.parts.worst ≡ self.old.parts.worst)
+            ⊎ (self.new.parts.worst ≡ Incomplete) }
         ensures found { IfOk result
-            (λ found. IsSome found → self.new.worst ≡ self.old.worst) }
+            (λ found. IsSome found → self.new.parts.worst ≡ self.old.parts.worst) }
+        ensures parts { self.new.parts
+            ≡ record self.old.parts { worst = self.new.parts.worst } }
     {
         match found_in(thumbnail_of(self.rt, path))? {
             Ok(found) => Ok(found),
             Err(error) => {
                 self.console.say(path, &error);
-                self.worst = Status::Incomplete;
+                self.parts.worst = Status::Incomplete;
                 Ok(None)
             }
         }
@@ -150,20 +206,19 @@ fn shown(found: &Option<Thumbnail>) -> Shown<'_>
 impl<E: Sink> Visitor for Page<'_, '_, '_, E> {
     type Error = AllocError;
 
-    fn visit(&mut self, picture: &PictureRow<'_>) -> Result<(), AllocError> {
+    ghost visits = { λ old row new. AddsPicture old.parts row new.parts };
+
+    fn visit(&mut self, picture: &PictureRow<'_>) -> Result<(), AllocError>
+        ensures visited { OnOk result
+            (AddsPicture self.old.parts (row_texts picture.now) self.new.parts) }
+    {
         let alloc = self.rt.alloc();
         let found = self.thumbnail_in(picture.path)?;
         let link = link_to(alloc, self.folder.as_str(), picture.path)?;
         let facts = facts_of(picture, link.as_str());
         let texts = texts_of(alloc, &facts)?;
-        let thumbnail = shown(&found);
-        let entry = entry_of(&facts, &texts, thumbnail);
-        let html = entry_html(alloc, self.section.section(), &entry)?;
-        self.html.extend_from_slice(html.as_slice())?;
-        let data = thumbnail_html(alloc, thumbnail)?;
-        self.data.extend_from_slice(data.as_slice())?;
-        self.section = LastSection::of(alloc, section_of(&entry))?;
-        Ok(())
+        let entry = entry_of(&facts, &texts, shown(&found));
+        self.parts.add(alloc, &entry)
     }
 }
 
@@ -231,31 +286,26 @@ fn page_of<E: Sink>(
     rt: &HostRuntime,
     paging: &Paging<'_>,
     console: &mut Console<'_, E>,
-) -> Result<(Vec<u8>, Status), CatalogError> {
+) -> Result<(Vec<u8>, Status), CatalogError>
+    ensures page { IfOk result (λ page. (entries : List Entry)
+        × (page.0.items ≡ page_html (codes "Pictures") entries)) }
+    ensures worst { IfOk result
+        (λ page. (page.1 ≡ Success) ⊎ (page.1 ≡ Incomplete)) }
+{
+    let parts = Parts {
+        html: head_html(rt.alloc(), "Pictures")?,
+        thumbnails: Vec::new(rt.alloc()),
+        section: LastSection::Closed,
+        worst: Status::Success,
+    };
     let mut page = Page {
         rt,
         console,
-        html: head_html(rt.alloc(), "Pictures")?,
-        data: Vec::new(rt.alloc()),
-        section: LastSection::Closed,
         folder: folder_in(rt, paging.to)?,
-        worst: Status::Success,
+        parts,
     };
-    match visit(rt, paging.database, &mut page) {
-        Ok(_pictures) => {}
-        Err(error) => return Err(visit_refusal(error)),
-    }
-    let Page {
-        mut html,
-        data,
-        section,
-        worst,
-        ..
-    } = page;
-    let foot = foot_html(rt.alloc(), section.section())?;
-    html.extend_from_slice(foot.as_slice())?;
-    html.extend_from_slice(data.as_slice())?;
-    let end = end_html(rt.alloc())?;
-    html.extend_from_slice(end.as_slice())?;
-    Ok((html, worst))
+    visit(rt, paging.database, &mut page).map_err(visit_refusal)?;
+    let Page { parts, .. } = page;
+    let worst = parts.worst;
+    Ok((parts.whole(rt.alloc())?, worst))
 }

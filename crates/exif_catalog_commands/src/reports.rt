@@ -1,9 +1,9 @@
 //! What is reported of a run over a catalogue.
 
 ghost use Rattle.std.specs.Prelude.{◌≡◌, IfOk, option_map, string_bytes};
-ghost use Rattle.exif_catalog_commands.specs.Reports.{move_text, query_refusal, refusal_of, reported_moves, reported_totals, totals_text, visit_refusal};
+ghost use Rattle.exif_catalog_commands.specs.Reports.{move_text, query_refusal, refusal_of, report_of, reported_moves, reported_totals, totals_text, visit_refusal};
 
-use exif_catalog::{CatalogError, Move, RunError, Totals};
+use exif_catalog::{CatalogError, Move, RunError, Totals, Updated};
 use exif_decisions::Escaped;
 use exif_session::Stop;
 use std::alloc::{AllocError, Global};
@@ -17,6 +17,18 @@ pub fn refusal_of(error: RunError<Stop>) -> Result<CatalogError, Stop>
         RunError::Caller(stop) => Err(stop),
         RunError::Catalog(CatalogError::OutOfMemory) => Err(Stop::OutOfMemory),
         RunError::Catalog(error) => Ok(error),
+    }
+}
+
+/// What a run did, or why the catalogue was refused; or why the run ends.
+pub fn report_of(
+    updated: Result<Updated, RunError<Stop>>,
+) -> Result<Result<Updated, CatalogError>, Stop>
+    ensures { result ≡ report_of updated }
+{
+    match updated {
+        Ok(updated) => Ok(Ok(updated)),
+        Err(error) => Ok(Err(refusal_of(error)?)),
     }
 }
 

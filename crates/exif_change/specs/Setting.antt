@@ -111,12 +111,15 @@ abbrev pub set_rest : Format → List ℕ × List Field → Result Change Why
 set_rest format (file, []) = Ok (whole file)
 set_rest format (file, field ∷ fields) = grown_file format (field ∷ fields) file
 
--- a file of a format with values set; of those names that more than one field has, all are left
--- over at first
+-- a file in which fields are set, in place and in its data; of those names that more than one field
+-- has, all are left over at first
+abbrev pub sets_set : Format → List Field × List Field → List ℕ → Result Change Why
+sets_set format sets file = as_edited (fitting_set sets.0 (file, sets.1)) >>= set_rest format
+
+-- a file of a format with values set
 abbrev pub set_as : Format → List Assignment → List ℕ → Result Change Why
 set_as format assignments file =
-    assigned_fields file assignments
-    >>= (λ sets. as_edited (fitting_set sets.0 (file, sets.1)) >>= set_rest format)
+    assigned_fields file assignments >>= (λ sets. sets_set format sets file)
 
 -- a file with values set: over the old ones where they fit, or else in Exif data that become longer
 abbrev pub set_file : List Assignment → List ℕ → Result Change Why

@@ -5,6 +5,7 @@
 
 mod changed;
 mod dates;
+mod fields;
 mod found;
 mod growing;
 mod in_place;
@@ -25,6 +26,7 @@ pub use dates::{Dates, shift};
 pub use exif_assign::Assignment;
 pub use exif_datetime::{ClockShift, Unmoved};
 pub use exif_privacy::Unread;
+pub use fields::set_fields;
 pub use found::{belongs, with_found};
 pub use growing::new_data;
 pub use in_place::Sets;

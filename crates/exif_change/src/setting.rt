@@ -5,7 +5,7 @@ ghost use Rattle.exif_assign.specs.Assigning.{parts_of};
 ghost use Rattle.exif_change.specs.Changed.{change_of};
 ghost use Rattle.exif_change.specs.InPlace.{sets_of};
 ghost use Rattle.exif_change.specs.Refusals.{Answers, Changes};
-ghost use Rattle.exif_change.specs.Setting.{assigned_behind, assigned_fields, field_for, field_here, fields_read, is_assigned, known_type, occurs_again, set_as, set_file, set_here, set_rest, type_for, with_assigned, with_field};
+ghost use Rattle.exif_change.specs.Setting.{assigned_behind, assigned_fields, field_for, field_here, fields_read, is_assigned, known_type, occurs_again, set_as, set_file, set_here, set_rest, sets_set, type_for, with_assigned, with_field};
 
 use crate::changed::Changed;
 use crate::growing::grown_file;
@@ -50,6 +50,18 @@ fn set_as(
     ensures { Answers change_of result (set_as format assignments.now file.items) }
 {
     let sets = assigned_fields(alloc, &file, assignments)?;
+    set_sets(alloc, format, sets, file)
+}
+
+/// The file of a format with fields set: in place where they fit, and else in its data.
+pub(crate) fn set_sets(
+    alloc: Global,
+    format: Format,
+    sets: Sets,
+    file: Vec<u8>,
+) -> Result<Changed, Refusal>
+    ensures { Answers change_of result (sets_set format (sets_of sets) file.items) }
+{
     let fitted = set_what_fits(alloc, file, sets)?;
     set_rest(alloc, format, fitted)
 }
@@ -148,8 +160,12 @@ fn add_assigned(
     Ok(())
 }
 
-// Adds a field to those that are set in place, or in the data if its name occurs more than once.
-fn add_field(exif: Option<&Exif>, field: Field, sets: &mut Sets) -> Result<(), AllocError>
+/// Adds a field to those that are set in place, or in the data if its name occurs more than once.
+pub(crate) fn add_field(
+    exif: Option<&Exif>,
+    field: Field,
+    sets: &mut Sets,
+) -> Result<(), AllocError>
     ensures { OnOk result
         (sets_of sets.new ≡ with_field (fields_read exif.entry) field (sets_of sets.old)) }
 {

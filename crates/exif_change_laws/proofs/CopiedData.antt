@@ -16,7 +16,7 @@ use Rattle.exif_formats.specs.Formats.{format_in, known_or, other_format_in}
 use Rattle.exif_formats.specs.Jxl.{jxl_answer}
 use Rattle.exif_formats.specs.Pictures.{png_data}
 use Rattle.exif_formats.specs.declared.format.PictureFormat.{PictureFormat}
-use Rattle.exif_formats.specs.declared.format.PictureFormat.TheVariants.{Tiff, Jpeg, Heif, WebP, Png, JpegXl, Raf, Orf, Rw2, Cr3}
+use Rattle.exif_formats.specs.declared.format.PictureFormat.TheVariants.{Container, Png, JpegXl, Raf, Orf, Rw2, Cr3}
 use Rattle.exif_parts.specs.Jxl.{jxl_rewritten}
 use Rattle.exif_parts.specs.Written.{Written}
 use Rattle.exif_parts.specs.declared.rewritten.Ended.{Ended}
@@ -42,9 +42,12 @@ no_ok why x e = cc
 
 -- whether a format is one of a container
 abbrev is_container : Option PictureFormat → Bool
-is_container (Some Jpeg) = true
-is_container (Some WebP) = true
+is_container (Some (Container format)) = true
 is_container _ = false
+
+abbrev contained_in : Option PictureFormat → Option Format
+contained_in (Some (Container format)) = Some format
+contained_in _ = None
 
 other_is_none : (a b c d e f : Bool)
     → is_container (if a then Some Png else (if b then Some JpegXl else (if c then Some Raf else (if d then Some Orf else (if e then Some Rw2 else (if f then Some Cr3 else None)))))) ≡ false
@@ -62,14 +65,11 @@ other_is_no_container head = other_is_none _ _ _ _ _ _
 
 -- a WebP file is one for the containers, too
 known_webp : (o : Option Format) (other : Option PictureFormat) → is_container other ≡ false
-    → known_or o other ≡ Some WebP → o ≡ Some known.WebP
-known_webp (Some known.WebP) other n e = refl
-known_webp (Some known.Tiff) other n e = absurd (let h : ◌≡◌ {A = Option PictureFormat} (Some Tiff) (Some WebP) = e in cc)
-known_webp (Some known.Heif) other n e = absurd (let h : ◌≡◌ {A = Option PictureFormat} (Some Heif) (Some WebP) = e in cc)
-known_webp (Some known.Jpeg) other n e = absurd (let h : ◌≡◌ {A = Option PictureFormat} (Some Jpeg) (Some WebP) = e in cc)
+    → known_or o other ≡ Some (Container known.WebP) → o ≡ Some known.WebP
+known_webp (Some format) other n e = ap contained_in e
 known_webp None other n e = absurd (let h : true ≡ false = sym (ap is_container e) ∙ n in cc)
 
-webp_known : (file : List ℕ) → format_for file ≡ Some WebP
+webp_known : (file : List ℕ) → format_for file ≡ Some (Container known.WebP)
     → container.format_in (take 4096 file) ≡ Some known.WebP
 unfolding format_in
 webp_known file e =
@@ -121,13 +121,13 @@ pub record Laws : Type 0 where
 by_format : Laws → (o : Option PictureFormat) (data' to new : List ℕ) → format_for to ≡ o
     → placed o data' to ≡ Ok (whole new) → length new < 2 ^ 64 - 1 → data_found o new ≡ Ok data'
 by_format laws None data' to new is e short = absurd (no_ok unknown_format (whole new) e)
-by_format laws (Some Jpeg) data' to new is e short =
+by_format laws (Some (Container known.Jpeg)) data' to new is e short =
     jpeg_answers Exif (Some data') to new e (omega arith)
-by_format laws (Some WebP) data' to new is e short =
+by_format laws (Some (Container known.WebP)) data' to new is e short =
     webp_answers Exif (Some data') to new laws.file (webp_known to is) e (omega arith)
 by_format laws (Some Png) data' to new is e short = png_answers data' to new laws.png e short
-by_format laws (Some Tiff) data' to new is e short = absurd (no_ok target_refused (whole new) e)
-by_format laws (Some Heif) data' to new is e short = absurd (no_ok target_refused (whole new) e)
+by_format laws (Some (Container known.Tiff)) data' to new is e short = absurd (no_ok target_refused (whole new) e)
+by_format laws (Some (Container known.Heif)) data' to new is e short = absurd (no_ok target_refused (whole new) e)
 by_format laws (Some JpegXl) data' to new is e short = jxl_answers data' to new laws.jxl e
 by_format laws (Some Raf) data' to new is e short = absurd (no_ok target_refused (whole new) e)
 by_format laws (Some Orf) data' to new is e short = absurd (no_ok target_refused (whole new) e)

@@ -18,8 +18,7 @@ use exif_change::{Note, Refusal};
 use exif_decisions::Outcome;
 use exif_files::{Failure, HostFiles, Report, Status, change};
 use exif_geotag::{
-    Relocation, Spot, SpotTexts, Track, TrackError, TrackFault, Unfinished, Unlocated,
-    spot_of_picture,
+    Relocation, Spot, Track, TrackError, TrackFault, Unfinished, Unlocated, spot_of_picture,
 };
 use exif_inputs::{exif_if_any, read_file};
 use exif_session::{Geotagging, NotChanged, Plan, Session, Stop, outcome_of};
@@ -208,12 +207,9 @@ fn relocate_file<W: Sink, E: Sink>(
     ensures pending { session.new.pending ≡ session.old.pending }
 {
     let alloc = session.rt.alloc();
-    let texts = SpotTexts::of(alloc, located.spot)?;
-    let Some(values) = texts.values(alloc)? else {
-        return session.refuse(path, &"its location can't be written");
-    };
+    let fields = located.spot.fields(alloc)?;
     let relocation = Relocation {
-        values: values.as_slice(),
+        fields: fields.as_slice(),
         stale: located.stale.as_slice(),
     };
     let mut files = HostFiles::new(session.rt);

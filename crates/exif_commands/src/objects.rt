@@ -2,14 +2,16 @@
 
 ghost use Rattle.std.specs.Prelude.{◌≡◌, IfErr, IfOk, Err};
 ghost use Rattle.exif_commands.specs.Objects.{IsObject, format_of, summary_by};
-ghost use Rattle.exif_commands.specs.Reads.{answer_read, counted_in, made_as, outcome_read, outcome_summed, outcome_written, with_faults};
+ghost use Rattle.exif_reader.specs.Found.{contents_of};
+ghost use Rattle.exif_commands.specs.Reads.{answer_read, made_as, outcome_read, outcome_summed, outcome_written};
 
-use crate::reads::{counted, read_opened, write_read};
+use crate::reads::{read_opened, write_read};
 use exif::{Error, Exif, Sink, Tag};
 use exif_decisions::Outcome;
 use exif_formats::{Picture, PictureFormat};
 use exif_inputs::{FileStamp, open, stamp_of};
 use exif_json::{FileFacts, flat_json, json_of_answer, json_of_tags};
+use exif_reader::report::contents_of;
 use exif_session::{Reading, Session, Stop};
 use std::alloc::{AllocError, Global};
 
@@ -103,7 +105,7 @@ fn summary_of(
     read: Result<Picture, Error>,
 ) -> Result<Result<(Vec<u8>, usize), Error>, AllocError>
     ensures outcome { IfOk read.entry (λ picture. IfOk result (λ made. outcome_written made
-        ≡ outcome_summed (with_faults (counted_in picture.answer)))) }
+        ≡ outcome_summed (contents_of picture.answer))) }
     ensures unread { IfErr read.entry (λ e. IfOk result (λ made. made ≡ Err e)) }
 {
     match read {
@@ -114,7 +116,7 @@ fn summary_of(
                 size: stamp.size,
                 modified: stamp.modified,
             };
-            summary_by(alloc, &facts, counted(alloc, answer))
+            summary_by(alloc, &facts, contents_of(answer))
         }
         Err(error) => Ok(Err(error)),
     }

@@ -1,12 +1,11 @@
 //! What was read of a picture, with its faults, and what is written of it.
 
-ghost use Rattle.std.specs.Prelude.{◌≡◌, All, IfErr, IfOk, IfSome, Err, take};
+ghost use Rattle.std.specs.Prelude.{◌≡◌, IfErr, IfOk, IfSome, Err, take};
 ghost use Rattle.exif_formats.specs.Formats.{format_in};
 ghost use Rattle.exif_formats.specs.Pictures.{ReadsPicture};
 ghost use Rattle.exif_inputs.specs.Uses.{held};
-ghost use Rattle.exif_types.specs.Failures.{IsInvalidFormat};
 ghost use Rattle.exif_types.specs.declared.error.Error.TheVariants.{Io};
-ghost use Rattle.exif_commands.specs.Reads.{answer_read, counted_in, outcome_written, with_count, with_faults};
+ghost use Rattle.exif_commands.specs.Reads.{answer_read, outcome_written};
 
 use exif::{Error, Exif, Sink};
 use exif_decisions::Outcome;
@@ -40,46 +39,6 @@ pub fn answer_of(read: Result<Picture, Error>) -> Result<Exif, Error>
 {
     match read {
         Ok(picture) => picture.answer,
-        Err(error) => Err(error),
-    }
-}
-
-/// What was read, and the faults that were skipped; an error that brings nothing comes back.
-pub fn found_of(alloc: Global, answer: Result<Exif, Error>) -> Result<(Exif, Vec<Error>), Error>
-    ensures found { with_count result ≡ counted_in answer.entry }
-    ensures invalid { IfOk result (λ found. All IsInvalidFormat found.1.items) }
-{
-    match answer {
-        Ok(exif) => Ok((exif, Vec::new(alloc))),
-        Err(Error::PartialResult(partial)) => Ok(partial.into_inner()),
-        Err(error) => Err(error),
-    }
-}
-
-/// What was read of a picture, and how many faults it has: one without Exif data was read, too.
-pub fn with_faults(read: Result<(Exif, usize), Error>) -> Result<(Option<Exif>, usize), Error>
-    ensures { result ≡ with_faults read.entry }
-{
-    match read {
-        Ok((exif, faults)) => Ok((Some(exif), faults)),
-        Err(Error::NotFound(_)) => Ok((None, 0)),
-        Err(error) => Err(error),
-    }
-}
-
-/// The same of what a reader answered.
-pub fn counted(alloc: Global, answer: Result<Exif, Error>) -> Result<(Option<Exif>, usize), Error>
-    ensures { result ≡ with_faults (counted_in answer.entry) }
-{
-    with_faults(count_of(found_of(alloc, answer)))
-}
-
-// What was read, and how many faults were skipped.
-fn count_of(found: Result<(Exif, Vec<Error>), Error>) -> Result<(Exif, usize), Error>
-    ensures { result ≡ with_count found.entry }
-{
-    match found {
-        Ok((exif, faults)) => Ok((exif, faults.len())),
         Err(error) => Err(error),
     }
 }

@@ -2,15 +2,16 @@
 
 ghost use Rattle.std.specs.Prelude.{◌≡◌, Err, IfErr, IfOk, IfSome, None, Ok};
 ghost use Rattle.exif_session.specs.declared.session.Stop.TheVariants.{Output};
-ghost use Rattle.exif_commands.specs.Reads.{answer_read, counted_in, outcome_reported};
+ghost use Rattle.exif_reader.specs.Found.{counted_in};
+ghost use Rattle.exif_commands.specs.Reads.{answer_read, outcome_reported};
 
-use crate::reads::{answer_of, found_of, read_opened};
+use crate::reads::{answer_of, read_opened};
 use exif::{Counted, Error, Sink};
 use exif_base::send_all;
 use exif_decisions::{Escaped, Outcome};
 use exif_formats::Picture;
 use exif_inputs::{Lines, open};
-use exif_report::write_all;
+use exif_reader::report::{found_of, write_all};
 use exif_session::{Reading, Session, Stop};
 use std::alloc::Global;
 use std::io;

@@ -5,12 +5,13 @@ ghost use Rattle.exif_types.specs.declared.error.Error.TheVariants.{OutOfMemory}
 ghost use Rattle.exif_commands.specs.Reads.{made_as, read_of};
 ghost use Rattle.exif_commands.specs.Rows.{cells_in, row_with};
 
-use crate::reads::{answer_of, counted, read_opened, write_read};
+use crate::reads::{answer_of, read_opened, write_read};
 use exif::{Error, Exif, Sink};
 use exif_columns::{header, row};
 use exif_decisions::Outcome;
 use exif_formats::Picture;
 use exif_inputs::open;
+use exif_reader::report::contents_of;
 use exif_session::{Session, Stop, Table};
 use std::alloc::{AllocError, Global};
 
@@ -56,7 +57,7 @@ fn row_of(
         made_as made ≡ row_with table.now path.now (read_of read.entry)) }
     ensures memory { read_of read.entry ≡ Err OutOfMemory → is_err result ≡ true }
 {
-    row_with(alloc, table, path, counted(alloc, answer_of(read)))
+    row_with(alloc, table, path, contents_of(answer_of(read)))
 }
 
 // The same by its Exif data, if it has some.

@@ -6,7 +6,7 @@ ghost use Rattle.exif_change.specs.declared.refusal.Refusal.TheVariants as refus
 ghost use Rattle.exif_decisions.specs.Paths.{name_of};
 ghost use Rattle.exif_decisions.specs.declared.outcome.Outcome.TheVariants.{Refused};
 ghost use Rattle.exif_inputs.specs.Thumbnails.{jpeg_of};
-ghost use Rattle.exif_inputs.specs.Wished.{in_folder};
+ghost use Rattle.exif_inputs.specs.Requested.{in_folder};
 ghost use Rattle.exif_session.specs.declared.session.Stop.TheVariants as stop;
 ghost use Rattle.exif_commands.specs.Thumbs.{jpeg_refusal, outcome_out};
 

@@ -29,7 +29,7 @@ pub const SNIFF_LEN: usize = 4096;
 pub const BLOCK: usize = 8192;
 
 /// A container of Exif data.
-#[derive(Clone, Copy, Debug)]
+#[derive(Clone, Copy, Debug, PartialEq, Eq)]
 pub enum Format {
     /// TIFF data, which are the Exif data.
     Tiff,

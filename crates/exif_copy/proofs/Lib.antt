@@ -1,3 +1,1 @@
 pub mod FoundSteps
-mod Blocks
-mod Chunks

@@ -1,22 +1,24 @@
 -- The XMP packet and the colour profile of a picture put into a changed file.
 use Rattle.std.specs.Prelude.{ℕ, List, codes, Bool, Option, None, Some, Result, Ok, Err, if◌then◌else◌}
 use Rattle.exif_types.specs.Refusals.{Refusal, not_supported, ◌>>=◌}
+use Rattle.exif_containers.specs.declared.container.Format.TheVariants as known
 use Rattle.exif_formats.specs.declared.format.PictureFormat.{PictureFormat}
 use Rattle.exif_formats.specs.declared.format.PictureFormat.TheVariants as format
 use Rattle.exif_change.specs.Changed.{Change}
 use Rattle.exif_copy.specs.Packets.{xmp_of}
 use Rattle.exif_copy.specs.Profiles.{profile_of}
-use Rattle.exif_copy.specs.Put.{with_profile, with_xmp}
-use Rattle.exif_copy.specs.declared.xmp_icc.putting.Container.{Container}
-use Rattle.exif_copy.specs.declared.xmp_icc.putting.Container.TheVariants as container
+use Rattle.exif_blocks.specs.PutBlocks.{with_profile, with_xmp}
+use Rattle.exif_blocks.specs.declared.blocks.Container.{Container}
+use Rattle.exif_blocks.specs.declared.blocks.Container.TheVariants as container
 use Rattle.exif_copy.specs.Found.{exif_found, format_for}
 use Rattle.exif_copy.specs.declared.selected.Selection.{Selection}
 
 -- the container of files of a format, if a packet and a profile can be put into them
 abbrev pub container_of : Option PictureFormat → Option Container
-container_of (Some format.Jpeg) = Some container.Jpeg
+container_of (Some (format.Container known.Jpeg)) = Some container.Jpeg
 container_of (Some format.Png) = Some container.Png
-container_of (Some format.WebP) = Some container.WebP
+container_of (Some (format.Container known.WebP)) = Some container.WebP
+container_of (Some format.JpegXl) = Some container.JpegXl
 container_of _ = None
 
 -- that of a file
@@ -26,7 +28,8 @@ container_for file = container_of (format_for file)
 -- nothing is put into other files
 abbrev pub no_container : Refusal
 no_container =
-    not_supported (codes "packets and profiles are copied into JPEG, WebP and PNG files only")
+    not_supported
+    (codes "packets and profiles are copied into JPEG, WebP, PNG and JPEG XL files only")
 
 -- ---- what a picture must have
 

@@ -1,6 +1,7 @@
 -- Worked examples: what the fields of a picture say, and which files are refused.
 use Rattle.std.specs.Prelude.{◌≡◌, refl, [], ◌∷◌, None, Some, Ok, Err}
-use Rattle.exif_formats.specs.declared.format.PictureFormat.TheVariants.{Tiff, Heif, Orf}
+use Rattle.exif_containers.specs.declared.container.Format.TheVariants.{Heif, Tiff}
+use Rattle.exif_formats.specs.declared.format.PictureFormat.TheVariants.{Container, Orf}
 use Rattle.exif_types.specs.declared.value.Value.TheVariants.{Long}
 use Rattle.exif_copy.specs.Found.{data_found, raw_refused, tiff_refused}
 use Rattle.exif_copy.specs.Placed.{placed, target_refused}
@@ -36,11 +37,11 @@ lacking = refl
 
 -- ---- files
 
-whole_file : data_found (Some Tiff) [] ≡ Err tiff_refused
+whole_file : data_found (Some (Container Tiff)) [] ≡ Err tiff_refused
 whole_file = refl
 
 raw_file : data_found (Some Orf) [] ≡ Err raw_refused
 raw_file = refl
 
-no_target : placed (Some Heif) [] [] ≡ Err target_refused
+no_target : placed (Some (Container Heif)) [] [] ≡ Err target_refused
 no_target = refl

@@ -3,12 +3,13 @@
 use Rattle.std.specs.Prelude.{ℕ, List, take, codes, Option, None, Some, Result, Err}
 use Rattle.exif_types.specs.Refusals.{Refusal, not_supported, ◌>>=◌}
 use Rattle.exif_containers.specs.Container.{container_answer, data_of, unknown_format}
+use Rattle.exif_containers.specs.declared.container.Format.TheVariants as known
 use Rattle.exif_formats.specs.Jxl.{jxl_answer}
 use Rattle.exif_formats.specs.Raf.{raf_answer}
 use Rattle.exif_formats.specs.Formats.{format_in}
 use Rattle.exif_formats.specs.Pictures.{png_data}
 use Rattle.exif_formats.specs.declared.format.PictureFormat.{PictureFormat}
-use Rattle.exif_formats.specs.declared.format.PictureFormat.TheVariants.{Tiff, Jpeg, Heif, WebP, Png, JpegXl, Raf, Orf, Rw2, Cr3}
+use Rattle.exif_formats.specs.declared.format.PictureFormat.TheVariants.{Container, Png, JpegXl, Raf, Orf, Rw2, Cr3}
 use Rattle.exif_change.specs.Reading.{Contents, data_contents}
 
 -- the format of a picture, by its first 4096 bytes
@@ -27,13 +28,13 @@ raw_refused = not_supported (codes "no Exif data are copied from raw files")
 -- the Exif data of a file of a format
 abbrev pub data_found : Option PictureFormat → List ℕ → Result (List ℕ) Refusal
 data_found None file = Err unknown_format
-data_found (Some Jpeg) file = container_answer file
-data_found (Some Heif) file = container_answer file
-data_found (Some WebP) file = container_answer file
+data_found (Some (Container known.Jpeg)) file = container_answer file
+data_found (Some (Container known.Heif)) file = container_answer file
+data_found (Some (Container known.WebP)) file = container_answer file
 data_found (Some Png) file = png_data file
 data_found (Some JpegXl) file = data_of (jxl_answer file)
 data_found (Some Raf) file = data_of (raf_answer file)
-data_found (Some Tiff) file = Err tiff_refused
+data_found (Some (Container known.Tiff)) file = Err tiff_refused
 data_found (Some Orf) file = Err raw_refused
 data_found (Some Rw2) file = Err raw_refused
 data_found (Some Cr3) file = Err raw_refused

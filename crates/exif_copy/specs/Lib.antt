@@ -9,9 +9,4 @@ pub mod Examples
 pub mod Parts
 pub mod Packets
 pub mod Profiles
-pub mod JpegSegments
-pub mod Zlib
-pub mod PngChunks
-pub mod WebpChunks
-pub mod Put
 pub mod BlockExamples

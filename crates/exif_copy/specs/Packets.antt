@@ -3,18 +3,9 @@ use Rattle.std.specs.Prelude.{ℕ, List, [], ◌∷◌, ◌++◌, codes, None, S
 use Rattle.exif_types.specs.Refusals.{Refusal, invalid_format, not_supported}
 use Rattle.exif_inventory.specs.declared.part.Part.{Part}
 use Rattle.exif_inventory.specs.Walks.{inventory}
-use Rattle.exif_copy.specs.declared.xmp_icc.parts.Block.TheVariants.{Xmp}
-use Rattle.exif_copy.specs.declared.xmp_icc.found.Xmp.{Xmp as Found}
+use Rattle.exif_blocks.specs.PutViews.{Packet}
+use Rattle.exif_blocks.specs.declared.blocks.Block.TheVariants.{Xmp}
 use Rattle.exif_copy.specs.Parts.{first_data, if_extension}
-
--- a packet, and the segments of a JPEG file that go on with it
-pub record Packet : Type 0 where
-  pub packet : List ℕ
-  pub extension : List ℕ
-
--- those of the program
-abbrev pub packet_view : Found → Packet
-packet_view xmp = record { packet = xmp.packet.items; extension = xmp.extension.items }
 
 -- these bytes, and then the segments that go on with a packet
 abbrev pub extension_of : List Part → List ℕ → List ℕ → List ℕ

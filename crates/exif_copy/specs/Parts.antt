@@ -1,11 +1,10 @@
--- The parts of a file that hold an XMP packet or a colour profile of its first picture, and the
--- file with others in their place.
-use Rattle.std.specs.Prelude.{ℕ, List, [], ◌∷◌, ◌++◌, take, drop, ◌==◌, ◌&&◌, ◌||◌, Bool, true, false, Option, None, Some, if◌then◌else◌}
+-- The parts of a file that hold an XMP packet or a colour profile of its first picture.
+use Rattle.std.specs.Prelude.{ℕ, List, [], ◌∷◌, take, drop, ◌==◌, ◌&&◌, Bool, true, false, Option, None, Some, if◌then◌else◌}
 use Rattle.exif_inventory.specs.declared.kind.Kind.{Kind}
 use Rattle.exif_inventory.specs.declared.kind.Kind.TheVariants as kind
 use Rattle.exif_inventory.specs.declared.part.Part.{Part}
-use Rattle.exif_copy.specs.declared.xmp_icc.parts.Block.{Block}
-use Rattle.exif_copy.specs.declared.xmp_icc.parts.Block.TheVariants as block
+use Rattle.exif_blocks.specs.declared.blocks.Block.{Block}
+use Rattle.exif_blocks.specs.declared.blocks.Block.TheVariants as block
 
 -- the bytes from an offset on, so many if there are
 abbrev pub slice : ℕ → ℕ → List ℕ → List ℕ
@@ -38,51 +37,11 @@ is_extended k = false
 abbrev pub is_extension : Part → Bool
 is_extension part = (part.picture == 0) && is_extended part.kind
 
--- they are replaced with the packet
-abbrev pub has_extensions : Block → Bool
-has_extensions block.Xmp = true
-has_extensions block.Profile = false
-
--- whether a part is replaced by a new block
-abbrev pub replaced : Block → Part → Bool
-replaced block part = holds block part || (has_extensions block && is_extension part)
-
--- new blocks are put behind Exif data
-abbrev pub is_exif : Kind → Bool
-is_exif kind.Exif = true
-is_exif k = false
-
--- those of the first picture
-abbrev pub is_place : Part → Bool
-is_place part = (part.picture == 0) && is_exif part.kind
-
 -- the data of the first part that holds such a block
 abbrev pub first_data : Block → List Part → List ℕ → Option (List ℕ)
 first_data block [] file = None
 first_data block (part ∷ parts) file =
     if holds block part then Some (data_of part file) else first_data block parts file
-
--- whether a file has Exif data
-abbrev pub has_place : List Part → Bool
-has_place [] = false
-has_place (part ∷ parts) = if is_place part then true else has_place parts
-
--- the bytes of a part that stays, and new ones behind Exif data
-abbrev pub part_put : Block → Part → List ℕ → List ℕ → List ℕ
-part_put block part put bytes =
-    if replaced block part then [] else
-    if is_place part then bytes ++ put else bytes
-
--- what is left to be put behind a part
-abbrev pub left_to_put : Part → List ℕ → List ℕ
-left_to_put part put = if is_place part then [] else put
-
--- these bytes, then those of the parts that stay, with new ones behind the first Exif data
-abbrev pub with_put : Block → List Part → List ℕ → List ℕ → List ℕ → List ℕ
-with_put block [] bytes put made = made
-with_put block (part ∷ parts) bytes put made =
-    with_put block parts (drop part.len bytes) (left_to_put part put)
-    (made ++ part_put block part put (take part.len bytes))
 
 -- the bytes of a part that goes on with a packet
 abbrev pub if_extension : Part → List ℕ → List ℕ

@@ -2,8 +2,9 @@
 use Rattle.std.specs.Prelude.{ℕ, List, codes, Option, None, Some, Result, Err}
 use Rattle.exif_types.specs.Refusals.{Refusal, not_supported}
 use Rattle.exif_segments.specs.declared.remove.Remove.TheVariants.{Exif}
+use Rattle.exif_containers.specs.declared.container.Format.TheVariants as known
 use Rattle.exif_formats.specs.declared.format.PictureFormat.{PictureFormat}
-use Rattle.exif_formats.specs.declared.format.PictureFormat.TheVariants.{Jpeg, WebP, Png, JpegXl}
+use Rattle.exif_formats.specs.declared.format.PictureFormat.TheVariants.{Container, Png, JpegXl}
 use Rattle.exif_change.specs.Changed.{Change}
 use Rattle.exif_change.specs.Refusals.{Why, as_read, reading, unknown_format}
 use Rattle.exif_change.specs.Rewriting.{if_whole, rewritten_jpeg, rewritten_webp, stream_ended}
@@ -23,8 +24,8 @@ target_refused =
 -- the file of a format with these Exif data in place of its own
 abbrev pub placed : Option PictureFormat → List ℕ → List ℕ → Result Change Why
 placed None data' file = Err unknown_format
-placed (Some Jpeg) data' file = as_read (rewritten_jpeg Exif (Some data') file)
-placed (Some WebP) data' file = as_read (rewritten_webp Exif (Some data') file)
+placed (Some (Container known.Jpeg)) data' file = as_read (rewritten_jpeg Exif (Some data') file)
+placed (Some (Container known.WebP)) data' file = as_read (rewritten_webp Exif (Some data') file)
 placed (Some Png) data' file = as_read (if_whole (png_rewritten Exif (Some data') file))
 placed (Some JpegXl) data' file = as_read (placed_in_jxl data' file)
 placed (Some format) data' file = Err target_refused

@@ -6,22 +6,11 @@ use Rattle.exif_types.specs.Refusals.{Refusal, invalid_format, not_supported, �
 use Rattle.exif_inventory.specs.declared.part.Part.{Part}
 use Rattle.exif_inventory.specs.Walks.{inventory}
 use Rattle.exif_copy.specs.declared.xmp_icc.found.Assembly.{Assembly}
-use Rattle.exif_copy.specs.declared.xmp_icc.found.Profile.{Profile as Found}
-use Rattle.exif_copy.specs.declared.xmp_icc.found.Profile.TheVariants as found
-use Rattle.exif_copy.specs.declared.xmp_icc.parts.Block.TheVariants as block
-use Rattle.exif_copy.specs.declared.xmp_icc.putting.Container.{Container}
-use Rattle.exif_copy.specs.declared.xmp_icc.putting.Container.TheVariants as container
+use Rattle.exif_blocks.specs.PutViews.{Profile, plain, compressed}
+use Rattle.exif_blocks.specs.declared.blocks.Block.TheVariants as block
+use Rattle.exif_blocks.specs.declared.blocks.Container.{Container}
+use Rattle.exif_blocks.specs.declared.blocks.Container.TheVariants as container
 use Rattle.exif_copy.specs.Parts.{data_of, first_data, holds}
-
--- a profile: its bytes, or a name and the bytes compressed
-pub data Profile : Type 0 where
-  plain : List ℕ → Profile
-  compressed : List ℕ → Profile
-
--- those of the program
-abbrev pub profile_view : Found → Profile
-profile_view (found.Plain bytes) = plain bytes.items
-profile_view (found.Compressed bytes) = compressed bytes.items
 
 -- no profile
 abbrev pub no_profile : Refusal
@@ -89,6 +78,7 @@ abbrev pub profile_in : Container → List Part → List ℕ → Result Profile 
 profile_in container.Jpeg parts file = finished (with_parts begun parts file)
 profile_in container.Png parts file = chunk_found parts file >>= λ bytes. Ok (compressed bytes)
 profile_in container.WebP parts file = chunk_found parts file >>= λ bytes. Ok (plain bytes)
+profile_in container.JpegXl parts file = Err no_source
 
 -- the profile of a file
 abbrev pub profile_of : Option Container → List ℕ → Result Profile Refusal

@@ -11,7 +11,7 @@ ghost use Rattle.exif_copy.specs.Found.{data_found, exif_found, raw_refused, tif
 use exif::{Counted, Error, Exif, Reader};
 use exif_change::ENTRY_LIMIT;
 use exif_containers::exif_attr_of_stream;
-use exif_formats::{PictureFormat, format_of_file, jxl_data, png_data, raf_data};
+use exif_formats::{Format, PictureFormat, format_of_file, jxl_data, png_data, raf_data};
 use std::alloc::Global;
 
 // ---- data
@@ -43,13 +43,13 @@ fn data_found(alloc: Global, format: Option<PictureFormat>, file: &[u8]) -> Resu
 {
     match format {
         None => Err(Error::InvalidFormat("Unknown image format")),
-        Some(PictureFormat::Jpeg | PictureFormat::Heif | PictureFormat::WebP) => {
+        Some(PictureFormat::Container(Format::Jpeg | Format::Heif | Format::WebP)) => {
             container_data(alloc, file)
         }
         Some(PictureFormat::Png) => png_data(alloc, file),
         Some(PictureFormat::JpegXl) => jxl_data(alloc, file),
         Some(PictureFormat::Raf) => raf_data(alloc, file),
-        Some(PictureFormat::Tiff) => Err(tiff_refused()),
+        Some(PictureFormat::Container(Format::Tiff)) => Err(tiff_refused()),
         Some(PictureFormat::Orf | PictureFormat::Rw2 | PictureFormat::Cr3) => Err(raw_refused()),
     }
 }

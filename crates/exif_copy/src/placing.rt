@@ -12,7 +12,7 @@ ghost use Rattle.exif_copy.specs.Placed.{placed, placed_in_jxl, target_refused};
 
 use exif::Error;
 use exif_change::{Changed, Left, Refusal};
-use exif_formats::PictureFormat;
+use exif_formats::{Format, PictureFormat};
 use exif_parts::{Ended, Rewritten, rewrite_jpeg, rewrite_jxl, rewrite_png, rewrite_webp};
 use exif_rewrite::Remove;
 use std::alloc::{AllocError, Global};
@@ -104,11 +104,11 @@ pub(crate) fn placed(
 {
     match format {
         None => Err(Refusal::UnknownFormat),
-        Some(PictureFormat::Jpeg) => as_read(placed_in_jpeg(alloc, exif, file)),
-        Some(PictureFormat::WebP) => as_read(placed_in_webp(alloc, exif, file)),
+        Some(PictureFormat::Container(Format::Jpeg)) => as_read(placed_in_jpeg(alloc, exif, file)),
+        Some(PictureFormat::Container(Format::WebP)) => as_read(placed_in_webp(alloc, exif, file)),
         Some(PictureFormat::Png) => as_read(placed_in_png(alloc, exif, file)),
         Some(PictureFormat::JpegXl) => as_read(placed_in_jxl(alloc, exif, file)),
-        Some(PictureFormat::Tiff | PictureFormat::Heif) => Err(target_refused()),
+        Some(PictureFormat::Container(Format::Tiff | Format::Heif)) => Err(target_refused()),
         Some(PictureFormat::Raf | PictureFormat::Orf) => Err(target_refused()),
         Some(PictureFormat::Rw2 | PictureFormat::Cr3) => Err(target_refused()),
     }

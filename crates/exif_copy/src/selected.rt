@@ -14,7 +14,7 @@ use crate::placing::as_read;
 use crate::xmp_icc::{Container, profile_of, with_profile, with_xmp, xmp_of};
 use exif::Error;
 use exif_change::{Changed, Refusal};
-use exif_formats::{PictureFormat, format_of_file};
+use exif_formats::{Format, PictureFormat, format_of_file};
 use std::alloc::Global;
 
 /// What of a picture is copied.
@@ -28,14 +28,15 @@ pub struct Selection {
     pub color_profile: bool,
 }
 
-// The container of a file, if a packet and a profile can be put into it.
+// The container of a file, if a packet can be put into it.
 fn container_for(file: &[u8]) -> Option<Container>
     ensures { result ≡ container_for file.now }
 {
     match format_of_file(file) {
-        Some(PictureFormat::Jpeg) => Some(Container::Jpeg),
+        Some(PictureFormat::Container(Format::Jpeg)) => Some(Container::Jpeg),
         Some(PictureFormat::Png) => Some(Container::Png),
-        Some(PictureFormat::WebP) => Some(Container::WebP),
+        Some(PictureFormat::Container(Format::WebP)) => Some(Container::WebP),
+        Some(PictureFormat::JpegXl) => Some(Container::JpegXl),
         _ => None,
     }
 }
@@ -44,7 +45,9 @@ fn container_for(file: &[u8]) -> Option<Container>
 fn no_container() -> Error
     ensures { refusal_of result ≡ Some no_container }
 {
-    Error::NotSupported("packets and profiles are copied into JPEG, WebP and PNG files only")
+    Error::NotSupported(
+        "packets and profiles are copied into JPEG, WebP, PNG and JPEG XL files only",
+    )
 }
 
 // A changed file with the XMP packet of a picture.
@@ -136,15 +139,15 @@ pub fn check_source(alloc: Global, from: &[u8], selection: Selection) -> Result<
 
 /// The file `to` with the Exif data of the file `from` in place of its own, as [`copy_exif`] puts
 /// them, and with the XMP packet and the colour profile of `from`, where they are selected, as
-/// [`with_xmp`](crate::xmp_icc::with_xmp) and [`with_profile`](crate::xmp_icc::with_profile) put them.
-/// All else stays as it is.
+/// [`with_xmp`](crate::xmp_icc::with_xmp) and [`with_profile`](crate::xmp_icc::with_profile) put
+/// them. All else stays as it is.
 ///
 /// A file `from` without a packet or a profile that is selected is refused with
 /// [`InvalidFormat`](exif::Error::InvalidFormat). Packets come from JPEG, PNG, WebP and JPEG XL
 /// files, and profiles from JPEG, PNG and WebP files; other files are refused with
-/// [`NotSupported`](exif::Error::NotSupported), and so are a packet in several segments for another
-/// file than a JPEG file, and the compressed profile of a PNG file for another file than a PNG
-/// file.
+/// [`NotSupported`](exif::Error::NotSupported), and so are a packet in several segments for
+/// another file than a JPEG file, the compressed profile of a PNG file for another file than a
+/// PNG file, and each profile for a JPEG XL file, whose colours are in its codestream.
 ///
 /// It takes the memory of [`copy_exif`], of what is copied, and of the new file once more.
 pub fn copy_selected(

@@ -2,15 +2,11 @@
 //! its own.
 //!
 //! [`xmp_of`] and [`profile_of`] take them out of a file. [`with_xmp`] and [`with_profile`] put
-//! them into a JPEG, PNG or WebP file that has Exif data.
+//! them into one: a packet into a JPEG, PNG, WebP or JPEG XL file, and a profile into a JPEG, PNG
+//! or WebP file.
 
 mod found;
-mod jpeg;
 mod parts;
-mod png;
-mod putting;
-mod webp;
-mod zlib;
 
-pub use found::{Profile, Xmp, profile_of, xmp_of};
-pub use putting::{Container, with_profile, with_xmp};
+pub use exif_blocks::{Container, Profile, Xmp, with_profile, with_xmp};
+pub use found::{profile_of, xmp_of};

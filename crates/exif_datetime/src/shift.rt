@@ -12,7 +12,7 @@ use exif_types::Value;
 use std::alloc::{AllocError, Global};
 
 // More seconds than the years of four digits have.
-const MOST: u64 = 0x400_0000_0000;
+const MAX_SECONDS: u64 = 0x400_0000_0000;
 
 /// By how much a clock was wrong.
 #[derive(Clone, Copy, PartialEq, Eq)]
@@ -70,7 +70,7 @@ impl ClockShift {
             } else {
                 Some(old - self.seconds)
             }
-        } else if self.seconds < MOST {
+        } else if self.seconds < MAX_SECONDS {
             Some(old + self.seconds)
         } else {
             None

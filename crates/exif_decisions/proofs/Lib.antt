@@ -1,2 +1,3 @@
+pub mod ListingLemmas
 pub mod ReadableLemmas
 pub mod SummaryLemmas

@@ -3,6 +3,7 @@ pub mod Endings
 pub mod Escaping
 pub mod Faults
 pub mod Found
+pub mod Listing
 pub mod Names
 pub mod Outcomes
 pub mod Paths

@@ -1,8 +1,9 @@
 //! Tags by their names, and the list of them.
 
-ghost use Rattle.std.specs.Prelude.{◌≡◌, IfOk, map, string_bytes};
+ghost use Rattle.std.specs.Prelude.{◌≡◌, IfOk, flat_map, map, string_bytes};
 ghost use Rattle.exif_files.specs.Names.{name_if};
 ghost use Rattle.exif_table.specs.View.{row_view};
+ghost use Rattle.exif_decisions.specs.Listing.{WritesText, tag_line, tags_text};
 ghost use Rattle.exif_decisions.specs.Tags.{canonical_word, near_of, nearer, nearest, nearest_in, nearest_of, spelled, type_word, word_for};
 
 use exif_assign::{Spelling, spelling_of};
@@ -14,8 +15,6 @@ use exif_types::Tag;
 use std::alloc::{AllocError, Global};
 use std::io;
 use strsim::levenshtein;
-
-const CONTEXTS: [Context; 4] = [Context::Tiff, Context::Exif, Context::Gps, Context::Interop];
 
 // How far a name may be from what was written to be suggested.
 const FAR: usize = 5;
@@ -110,22 +109,46 @@ fn nearer(alloc: Global, name: &str, other: &'static str, best: Near) -> Result<
     Ok(best)
 }
 
-/// Writes a line for each tag: its name, how its value is written, and what it means.
-pub fn write_tags<W: Sink>(alloc: Global, out: &mut W) -> io::Result<()> {
-    for context in CONTEXTS {
-        for row in rows(context) {
-            write_row(alloc, context, row, out)?;
-        }
-    }
+/// Writes a line for each tag: its name, how its value is written, and what it means. Where memory
+/// runs out or the writer fails, a front of the lines may have been written.
+pub fn write_tags<W: Sink>(alloc: Global, out: &mut W) -> io::Result<()>
+    ensures writes { WritesText W.Sink out.old out.new result tags_text }
+{
+    write_rows(alloc, Context::Tiff, rows(Context::Tiff), out)?;
+    write_rows(alloc, Context::Exif, rows(Context::Exif), out)?;
+    write_rows(alloc, Context::Gps, rows(Context::Gps), out)?;
+    write_rows(alloc, Context::Interop, rows(Context::Interop), out)?;
     out.flush()
 }
 
+// Writes the lines of the tags of a context.
+fn write_rows<W: Sink>(alloc: Global, context: Context, rows: &[Row], out: &mut W) -> io::Result<()>
+    ensures writes { WritesText W.Sink out.old out.new result
+        (flat_map (tag_line context) (map row_view rows.now)) }
+{
+    for row in rows {
+        write_row(alloc, context, row, out)?;
+    }
+    Ok(())
+}
+
 // Writes the line of a tag.
-fn write_row<W: Sink>(alloc: Global, context: Context, row: &Row, out: &mut W) -> io::Result<()> {
+fn write_row<W: Sink>(alloc: Global, context: Context, row: &Row, out: &mut W) -> io::Result<()>
+    ensures writes { WritesText W.Sink out.old out.new result
+        (tag_line context (row_view row.now)) }
+{
+    let line = line_of(alloc, context, row)?;
+    send_all(out, line.as_bytes())
+}
+
+// The line of a tag.
+#[tactic(auto, unfolding(crate::specs::Listing::tag_line))]
+fn line_of(alloc: Global, context: Context, row: &Row) -> Result<String, AllocError>
+    ensures { IfOk result (λ line. string_bytes line ≡ tag_line context (row_view row.now)) }
+{
     let (name, description) = (row.name, row.description);
     let kind = type_word(Tag(context, row.number));
-    let line = format!(in alloc; "{name:<36} {kind:<15} {description}\n")?;
-    send_all(out, line.as_bytes())
+    format!(in alloc; "{name:<36} {kind:<15} {description}\n")
 }
 
 // The word for how the value of a tag is written.

@@ -1,9 +1,11 @@
 //! What may be GPS data and is not erased with them.
 
-ghost use Rattle.std.specs.Prelude.{◌≡◌, ◌≤◌, ◌<◌, ◌^◌, ◌==◌, ◌||◌, length, IfOk};
+ghost use Rattle.std.specs.Prelude.{◌≡◌, ◌≤◌, ◌<◌, ◌^◌, ◌==◌, ◌||◌, length, Ok, IfOk};
 ghost use Rattle.std.specs.List.{filter, list_any};
 ghost use Rattle.exif_base.specs.Orders.{number_of};
 ghost use Rattle.exif_edit_base.specs.Causes.{Makes};
+ghost use Rattle.exif_edit_base.specs.Readings.{read_of, reading};
+ghost use Rattle.exif_edit_base.specs.Walked.{Finds};
 ghost use Rattle.exif_edit_base.specs.GpsOffsets.{Left, all_directories, is_full, is_left, leftovers, max_directories, max_pointers, pointers};
 
 use crate::error::Error;
@@ -107,20 +109,32 @@ fn meets_limit(
     is_any_full(alloc, order, bytes, directories)
 }
 
-/// What may be GPS data and is not erased with them: a program is to say so. It takes the memory of
-/// one reading. The refusal is `Header`.
-pub fn leftovers(alloc: Global, bytes: &[u8]) -> Result<Unerased, Error>
-    ensures { Makes (λ (l : Left). l) result (leftovers bytes.now) }
+/// What [`leftovers`] answers to data that are located already.
+pub fn leftovers_of(alloc: Global, bytes: &[u8], located: &Located) -> Result<Unerased, AllocError>
+    requires reads { reading bytes.now ≡ Ok (read_of located.now.parsed) }
+    requires offsets { Finds bytes.now located.now.walk }
+    requires space { 8 ≤ length bytes.now }
+    requires small { length bytes.now < 2 ^ 32 }
+    ensures { IfOk result (λ (l : Left). leftovers bytes.now ≡ Ok l) }
 {
-    let Located { parsed, walk } = locate(alloc, bytes)?;
-    let order = order_named(parsed.little_endian);
+    let order = order_named(located.parsed.little_endian);
     let directories = all_directories(alloc, order, bytes)?;
     let met = meets_limit(alloc, order, bytes, directories.as_slice())?;
-    let erased = gps_offsets(alloc, order, bytes, walk.gps())?;
+    let erased = gps_offsets(alloc, order, bytes, located.walk.gps())?;
     let pointers = gps_pointers(alloc, order, bytes, directories.as_slice())?;
     let left = left_of(alloc, bytes, erased.as_slice(), pointers.as_slice())?;
     Ok(Unerased {
         pointers: left,
         meets_limit: met,
     })
+}
+
+/// What may be GPS data and is not erased with them: a program is to say so. It takes the memory of
+/// one reading. The refusal is `Header`.
+pub fn leftovers(alloc: Global, bytes: &[u8]) -> Result<Unerased, Error>
+    ensures { Makes (λ (l : Left). l) result (leftovers bytes.now) }
+{
+    let located = locate(alloc, bytes)?;
+    let left = leftovers_of(alloc, bytes, &located)?;
+    Ok(left)
 }

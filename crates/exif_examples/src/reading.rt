@@ -8,7 +8,7 @@ ghost use Rattle.exif_tiff.specs.Answers.{raw_answer};
 ghost use Rattle.exif_containers.specs.Container.{container_answer};
 ghost use Rattle.exif_reader.specs.Files.{ReadsByNeed, ReadsContainer};
 ghost use Rattle.exif_summary.specs.Finding.{number_of};
-ghost use Rattle.exif_report.specs.Lines.{field_line};
+ghost use Rattle.exif_reader.specs.Lines.{field_line};
 
 use exif::{Error, Exif, In, ReadSeek, Reader, Seekable, Tag};
 use std::alloc::Global;
@@ -84,7 +84,7 @@ pub fn size(exif: &Exif) -> Option<(u32, u32)>
     Some((width.value.get_uint(0)?, height.value.get_uint(0)?))
 }
 
-#[tactic(auto, unfolding(exif_report::specs::Lines::field_line))]
+#[tactic(auto, unfolding(exif_reader::specs::Lines::field_line))]
 /// A line for each field: its name, its directory, and its value with its unit.
 pub fn field_lines(alloc: Global, exif: &Exif) -> Result<String, Error>
     ensures lines { IfOk result (λ lines. string_bytes lines

@@ -11,12 +11,11 @@ use Rattle.exif_tiff.specs.Answers.{Answer}
 use Rattle.exif_containers.specs.Container as container
 use Rattle.exif_containers.specs.GoingBack.{BeginsAt}
 use Rattle.exif_containers.specs.declared.container.Format.{Format}
-use Rattle.exif_containers.specs.declared.container.Format.TheVariants as known
 use Rattle.exif_containers.proofs.ContainerSteps.{begins_there, head-first}
 use Rattle.exif_containers.specs.Png.{begins_png}
 use Rattle.exif_formats.specs.Cr3.{begins_cr3}
 use Rattle.exif_formats.specs.Raf.{begins_raf}
-use Rattle.exif_formats.specs.Formats.{begins_jpeg_xl, begins_orf, begins_rw2, format_in, known_as, known_or, other_format_in}
+use Rattle.exif_formats.specs.Formats.{begins_jpeg_xl, begins_orf, begins_rw2, format_in, known_or, other_format_in}
 use Rattle.exif_formats.specs.Magic.{as_tiff, tiff_signature}
 use Rattle.exif_formats.specs.Pictures.{ReadsAsFormat, ReadsBy, as_read, is_other_tiff, origin_for}
 use Rattle.exif_formats.specs.declared.format.PictureFormat.{PictureFormat}
@@ -60,14 +59,8 @@ other_long s e =
     other_by (4 ≤ length s) (begins_png s) (begins_jpeg_xl s) (begins_raf s) (begins_orf s) (begins_rw2 s) (begins_cr3 s)
     (orf_long s) (front_long s (codes "IIU\0") refl) e
 
-known_no : (f : Format) → is_other_tiff (Some (known_as f)) ≡ false
-known_no known.Tiff = refl
-known_no known.Jpeg = refl
-known_no known.Heif = refl
-known_no known.WebP = refl
-
 known_long : (s : List ℕ) (f : Option Format) → is_other_tiff (known_or f (other_format_in s)) ≡ true → 4 ≤ length s
-known_long s (Some f) e = never (sym (known_no f) ∙ e)
+known_long s (Some f) e = never e
 known_long s None e = other_long s e
 
 -- the same of the format of a file

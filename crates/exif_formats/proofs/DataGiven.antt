@@ -17,7 +17,7 @@ use Rattle.exif_formats.specs.Raf.{raf_answer}
 use Rattle.exif_formats.specs.Formats.{format_in}
 use Rattle.exif_formats.specs.Pictures.{ReadsAsFormat, ReadsBy, ReadsDirectories, as_read, container_of, data_as, png_data}
 use Rattle.exif_formats.specs.declared.format.PictureFormat.{PictureFormat}
-use Rattle.exif_formats.specs.declared.format.PictureFormat.TheVariants.{Tiff, Jpeg, Heif, WebP, Png, JpegXl, Raf, Orf, Rw2, Cr3}
+use Rattle.exif_formats.specs.declared.format.PictureFormat.TheVariants.{Container, Png, JpegXl, Raf, Orf, Rw2, Cr3}
 use Rattle.exif_types.specs.Refusals.{Fails, Gives, IsInterrupted, Refusal, refusal_of}
 use Rattle.exif_segments.specs.Answer.{Answer, found}
 use Rattle.exif_containers.specs.Container.{answer_as, data_of}
@@ -142,10 +142,7 @@ pub known_reads : (read : List ℕ → tiff.Answer) (format : Option PictureForm
     → IfSome old (λ bytes. Q → ReadsAsFormat read format bytes result)
 unfolding ReadsAsFormat data_as
 known_reads read None old result Q p j r c h = h
-known_reads read (Some Tiff) old result Q p j r c h = h
-known_reads read (Some Jpeg) old result Q p j r c h = h
-known_reads read (Some Heif) old result Q p j r c h = h
-known_reads read (Some WebP) old result Q p j r c h = h
+known_reads read (Some (Container format)) old result Q p j r c h = h
 known_reads read (Some Png) old result Q p j r c h = absurd (p refl)
 known_reads read (Some JpegXl) old result Q p j r c h = absurd (j refl)
 known_reads read (Some Raf) old result Q p j r c h = absurd (r refl)
@@ -173,10 +170,7 @@ format_stops : (read : List ℕ → tiff.Answer) (format : Option PictureFormat)
 unfolding ReadsAsFormat
 format_stops read None bytes e i = stops read (data_as None bytes) e i
 format_stops read (Some Cr3) bytes e i = cr3_stops read (cr3_answer bytes) e i
-format_stops read (Some Tiff) bytes e i = stops read (data_as (Some Tiff) bytes) e i
-format_stops read (Some Jpeg) bytes e i = stops read (data_as (Some Jpeg) bytes) e i
-format_stops read (Some Heif) bytes e i = stops read (data_as (Some Heif) bytes) e i
-format_stops read (Some WebP) bytes e i = stops read (data_as (Some WebP) bytes) e i
+format_stops read (Some (Container format)) bytes e i = stops read (data_as (Some (Container format)) bytes) e i
 format_stops read (Some Png) bytes e i = stops read (data_as (Some Png) bytes) e i
 format_stops read (Some JpegXl) bytes e i = stops read (data_as (Some JpegXl) bytes) e i
 format_stops read (Some Raf) bytes e i = stops read (data_as (Some Raf) bytes) e i

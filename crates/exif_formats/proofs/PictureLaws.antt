@@ -4,27 +4,21 @@ use Rattle.std.specs.Str.{bytes_eq}
 use Rattle.exif_containers.specs.Container as container
 use Rattle.exif_containers.specs.Container.{answer_as, begins_tiff, container_answer}
 use Rattle.exif_containers.specs.declared.container.Format.{Format}
-use Rattle.exif_containers.specs.declared.container.Format.TheVariants as known
-use Rattle.exif_formats.specs.Formats.{format_in, known_as, known_or, other_format_in}
+use Rattle.exif_formats.specs.Formats.{format_in, known_or, other_format_in}
 use Rattle.exif_formats.specs.Laws.{ContainersAreReadSo, RawFilesAreTiff}
 use Rattle.exif_formats.specs.Pictures.{as_read, data_as}
+use Rattle.exif_formats.specs.declared.format.PictureFormat.TheVariants.{Container}
 
-format_same : (signature : List ℕ) (format : Format) → container.format_in signature ≡ Some format → format_in signature ≡ Some (known_as format)
+format_same : (signature : List ℕ) (format : Format) → container.format_in signature ≡ Some format → format_in signature ≡ Some (Container format)
 unfolding format_in
 format_same signature format e = ap (λ known. known_or known (other_format_in signature)) e
 
-read_same : (format : Format) (bytes : List ℕ) → as_read (Some (known_as format)) bytes ≡ bytes
-read_same known.Tiff bytes = refl
-read_same known.Jpeg bytes = refl
-read_same known.Heif bytes = refl
-read_same known.WebP bytes = refl
+read_same : (format : Format) (bytes : List ℕ) → as_read (Some (Container format)) bytes ≡ bytes
+read_same format bytes = refl
 
-data_same : (format : Format) (bytes : List ℕ) → data_as (Some (known_as format)) bytes ≡ answer_as (Some format) bytes
+data_same : (format : Format) (bytes : List ℕ) → data_as (Some (Container format)) bytes ≡ answer_as (Some format) bytes
 unfolding data_as
-data_same known.Tiff bytes = refl
-data_same known.Jpeg bytes = refl
-data_same known.Heif bytes = refl
-data_same known.WebP bytes = refl
+data_same format bytes = refl
 
 contained : (format : Format) (bytes : List ℕ) → container.format_in (take 4096 bytes) ≡ Some format → answer_as (Some format) bytes ≡ container_answer bytes
 unfolding container_answer

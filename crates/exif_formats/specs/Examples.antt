@@ -1,12 +1,13 @@
 -- Worked examples: formats by bytes written by hand, and what becomes of these bytes.
 use Rattle.std.specs.Prelude.{◌≡◌, refl, List, [], ◌∷◌, ◌++◌, codes, true, Some, None}
+use Rattle.exif_containers.specs.declared.container.Format.TheVariants.{Tiff}
 use Rattle.exif_tiff.specs.Answers.{Refused, Whole, Partial}
 use Rattle.exif_tiff.specs.declared.fault.Fault.TheVariants.{InvalidByteOrder, TooManyEntries}
 use Rattle.exif_table.specs.declared.context.Context.TheVariants as context
 use Rattle.exif_formats.specs.Formats.{begins_jpeg_xl, begins_orf, begins_rw2, other_format_in}
 use Rattle.exif_formats.specs.Magic.{as_tiff}
 use Rattle.exif_formats.specs.Pictures.{as_read, context_for, joined}
-use Rattle.exif_formats.specs.declared.format.PictureFormat.TheVariants.{Png, JpegXl, Raf, Orf, Rw2, Cr3, Tiff}
+use Rattle.exif_formats.specs.declared.format.PictureFormat.TheVariants.{Container, Png, JpegXl, Raf, Orf, Rw2, Cr3}
 
 -- ---- signatures
 
@@ -52,7 +53,7 @@ big : as_tiff (codes "MMOR\0\0\0\u{8}") ≡ codes "MM\0*\0\0\0\u{8}"
 big = refl
 
 -- a file of another format is read as it is
-as_it_is : as_read (Some Tiff) (codes "II*\0\u{8}\0\0\0") ≡ codes "II*\0\u{8}\0\0\0"
+as_it_is : as_read (Some (Container Tiff)) (codes "II*\0\u{8}\0\0\0") ≡ codes "II*\0\u{8}\0\0\0"
 as_it_is = refl
 
 -- ---- directories of a CR3 file

@@ -9,14 +9,7 @@ use Rattle.exif_containers.specs.Png.{begins_png}
 use Rattle.exif_formats.specs.Cr3.{begins_cr3}
 use Rattle.exif_formats.specs.Raf.{begins_raf}
 use Rattle.exif_formats.specs.declared.format.PictureFormat.{PictureFormat}
-use Rattle.exif_formats.specs.declared.format.PictureFormat.TheVariants.{Tiff, Jpeg, Heif, WebP, Png, JpegXl, Raf, Orf, Rw2, Cr3}
-
--- a container of Exif data as a format of pictures
-abbrev pub known_as : Format → PictureFormat
-known_as known.Tiff = Tiff
-known_as known.Jpeg = Jpeg
-known_as known.Heif = Heif
-known_as known.WebP = WebP
+use Rattle.exif_formats.specs.declared.format.PictureFormat.TheVariants.{Container, Png, JpegXl, Raf, Orf, Rw2, Cr3}
 
 -- whether bytes begin a JPEG XL file (ISO/IEC 18181-2, 9.1; ISO/IEC 18181-1, Annex B)
 abbrev pub begins_jpeg_xl : List ℕ → Bool
@@ -44,7 +37,7 @@ other_format_in signature =
 
 -- the format of a container, or another one
 abbrev pub known_or : Option Format → Option PictureFormat → Option PictureFormat
-known_or (Some format) other = Some (known_as format)
+known_or (Some format) other = Some (Container format)
 known_or None other = other
 
 -- the format that a signature begins
@@ -53,10 +46,10 @@ format_in signature = known_or (container.format_in signature) (other_format_in 
 
 -- the name of a format
 abbrev pub format_name : PictureFormat → List ℕ
-format_name Tiff = codes "TIFF"
-format_name Jpeg = codes "JPEG"
-format_name Heif = codes "HEIF"
-format_name WebP = codes "WebP"
+format_name (Container known.Tiff) = codes "TIFF"
+format_name (Container known.Jpeg) = codes "JPEG"
+format_name (Container known.Heif) = codes "HEIF"
+format_name (Container known.WebP) = codes "WebP"
 format_name Png = codes "PNG"
 format_name JpegXl = codes "JPEG XL"
 format_name Raf = codes "RAF"

@@ -19,7 +19,7 @@ use Rattle.exif_formats.specs.Raf.{raf_answer}
 use Rattle.exif_formats.specs.Formats.{format_in}
 use Rattle.exif_formats.specs.Magic.{as_tiff}
 use Rattle.exif_formats.specs.declared.format.PictureFormat.{PictureFormat}
-use Rattle.exif_formats.specs.declared.format.PictureFormat.TheVariants.{Tiff, Jpeg, Heif, WebP, Png, JpegXl, Raf, Orf, Rw2, Cr3}
+use Rattle.exif_formats.specs.declared.format.PictureFormat.TheVariants.{Container, Png, JpegXl, Raf, Orf, Rw2, Cr3}
 
 -- ---- formats with one block of Exif data
 
@@ -39,10 +39,7 @@ origin_for format origin = if is_other_tiff format then None else origin
 
 -- the container of Exif data that a format is read as, if it is one
 abbrev pub container_of : Option PictureFormat → Option Format
-container_of (Some Tiff) = Some known.Tiff
-container_of (Some Jpeg) = Some known.Jpeg
-container_of (Some Heif) = Some known.Heif
-container_of (Some WebP) = Some known.WebP
+container_of (Some (Container format)) = Some format
 container_of (Some Orf) = Some known.Tiff
 container_of (Some Rw2) = Some known.Tiff
 container_of _ = None

@@ -1,7 +1,7 @@
 //! The formats of pictures, and their signatures.
 
 ghost use Rattle.std.specs.Prelude.{◌≡◌, take};
-ghost use Rattle.exif_formats.specs.Formats.{begins_jpeg_xl, begins_orf, begins_rw2, format_in, format_name, known_as, other_format_in};
+ghost use Rattle.exif_formats.specs.Formats.{begins_jpeg_xl, begins_orf, begins_rw2, format_in, format_name, other_format_in};
 
 use crate::jxl::{is_codestream, is_jxl};
 use crate::raw::cr3::is_cr3;
@@ -12,14 +12,9 @@ use exif_containers::png::is_png;
 /// A format of pictures.
 #[derive(Clone, Copy, Debug, PartialEq, Eq)]
 pub enum PictureFormat {
-    /// TIFF data, which are the Exif data; also most raw files.
-    Tiff,
-    /// A JPEG stream.
-    Jpeg,
-    /// A HEIF or AVIF file.
-    Heif,
-    /// A WebP file.
-    WebP,
+    /// A container of Exif data that the reader knows: a JPEG stream, a HEIF, AVIF or WebP file, or
+    /// TIFF data, as most raw files are.
+    Container(Format),
     /// A PNG file.
     Png,
     /// A JPEG XL file, in its container or as a codestream.
@@ -34,28 +29,16 @@ pub enum PictureFormat {
     Cr3,
 }
 
-/// A container of Exif data as a format of pictures.
-pub fn known_as(format: Format) -> PictureFormat
-    ensures { result ≡ known_as format }
-{
-    match format {
-        Format::Tiff => PictureFormat::Tiff,
-        Format::Jpeg => PictureFormat::Jpeg,
-        Format::Heif => PictureFormat::Heif,
-        Format::WebP => PictureFormat::WebP,
-    }
-}
-
 impl PictureFormat {
     /// Its name.
     pub fn name(self) -> &'static str
         ensures { result.now ≡ format_name self }
     {
         match self {
-            PictureFormat::Tiff => "TIFF",
-            PictureFormat::Jpeg => "JPEG",
-            PictureFormat::Heif => "HEIF",
-            PictureFormat::WebP => "WebP",
+            PictureFormat::Container(Format::Tiff) => "TIFF",
+            PictureFormat::Container(Format::Jpeg) => "JPEG",
+            PictureFormat::Container(Format::Heif) => "HEIF",
+            PictureFormat::Container(Format::WebP) => "WebP",
             PictureFormat::Png => "PNG",
             PictureFormat::JpegXl => "JPEG XL",
             PictureFormat::Raf => "RAF",
@@ -110,14 +93,14 @@ fn other_format_of(signature: &[u8]) -> Option<PictureFormat>
     }
 }
 
-/// The format that begins with these bytes, of which 4096 suffice. A file that
-/// [`exif_containers::container::format_of`] knows has the format that it says.
+/// The format that begins with these bytes, of which 4096 suffice. A container is what
+/// [`exif_containers::container::format_of`] answers.
 #[tactic(auto, unfolding(crate::specs::Formats::format_in))]
 pub fn format_of(signature: &[u8]) -> Option<PictureFormat>
     ensures { result ≡ format_in signature.now }
 {
     match container::format_of(signature) {
-        Some(format) => Some(known_as(format)),
+        Some(format) => Some(PictureFormat::Container(format)),
         None => other_format_of(signature),
     }
 }

@@ -15,6 +15,7 @@ mod options;
 mod picture;
 pub mod raw;
 
+pub use exif_containers::container::Format;
 pub use format::{PictureFormat, format_of, format_of_file};
 pub use held::{jxl_data, png_data, raf_data};
 pub use options::Options;

@@ -37,10 +37,8 @@ fn container_of(format: Option<PictureFormat>) -> Option<Format>
     ensures { result ≡ container_of format }
 {
     match format {
-        Some(PictureFormat::Tiff | PictureFormat::Orf | PictureFormat::Rw2) => Some(Format::Tiff),
-        Some(PictureFormat::Jpeg) => Some(Format::Jpeg),
-        Some(PictureFormat::Heif) => Some(Format::Heif),
-        Some(PictureFormat::WebP) => Some(Format::WebP),
+        Some(PictureFormat::Container(format)) => Some(format),
+        Some(PictureFormat::Orf | PictureFormat::Rw2) => Some(Format::Tiff),
         _ => None,
     }
 }

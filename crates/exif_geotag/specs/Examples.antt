@@ -2,7 +2,10 @@
 use Rattle.std.specs.Prelude.{◌≡◌, ℕ, ◌+◌, ◌-◌, ◌*◌, Bool, true, false, List, [], ◌∷◌, ◌++◌, codes, map, Option, Some, None, Result, Ok, Err, refl, option_and_then}
 use Rattle.std.specs.Fmt.{digits}
 use Rattle.exif_text.specs.Plain.{zero_filled}
+use Rattle.exif_table.specs.declared.context.Context.TheVariants.{Gps}
 use Rattle.exif_text.specs.declared.date.TimeOfDay.{TimeOfDay}
+use Rattle.exif_text.specs.declared.rational.Rational.{Rational}
+use Rattle.exif_types.specs.declared.value.Value.TheVariants as value
 use Rattle.exif_datetime.specs.Calendar.{days_before_month, days_before_year, month_from, year_from}
 use Rattle.exif_locations.specs.declared.xmp.fault.Fault.TheVariants.{Malformed, Cut}
 use Rattle.exif_locations.specs.XmpNames.{is_location, is_word}
@@ -15,11 +18,11 @@ use Rattle.exif_geotag.specs.declared.point.Fix.{Fix}
 use Rattle.exif_geotag.specs.declared.point.Point.{Point}
 use Rattle.exif_geotag.specs.Between.{between, fix_at, longitude_between}
 use Rattle.exif_geotag.specs.Elements.{element_at}
-use Rattle.exif_geotag.specs.FixTexts.{fix_text}
 use Rattle.exif_geotag.specs.Formats.{other_format}
 use Rattle.exif_geotag.specs.Gaps.{gap_in}
 use Rattle.exif_geotag.specs.Moments.{moment_at, moment_text}
 use Rattle.exif_geotag.specs.Numbers.{negative_of, number_of, positive_of}
+use Rattle.exif_geotag.specs.SpotFields.{altitude_fields, field, latitude_fields, longitude_fields, spot_fields, text_field}
 use Rattle.exif_geotag.specs.States.{enter, leave, with_attribute, with_text}
 use Rattle.exif_geotag.specs.Steps.{content_step, step_at, tag_step}
 use Rattle.exif_geotag.specs.Texts.{trimmed}
@@ -221,27 +224,51 @@ at_the_last = refl
 pub behind_the_last : at_times 400001 ≡ None
 behind_the_last = refl
 
--- ---- the text of a location
+-- ---- the fields of a location
 
--- a location
-abbrev pub location : ℕ → ℕ → Option ℕ → Fix
-location latitude longitude elevation =
-    record { latitude = latitude; longitude = longitude; elevation = elevation }
+-- a whole number
+abbrev pub whole : ℕ → Rational
+whole number = record { num = number; denom = 1 }
 
-pub in_sydney : fix_text (location 561400278 3312111111 (Some 1000012345))
-    ≡ codes "-33.8599722,151.2111111,12.345"
+-- 33 51' 35.89992" S, 151 12' 39.99996" E and 12.345 m: exiftool 12.57 writes the same numbers for
+-- -33.8599722, 151.2111111 and 12.345, in other fractions
+pub in_sydney : spot_fields (record {
+  fix = record { latitude = 561400278; longitude = 3312111111; elevation = Some 1000012345 };
+  moment = record {
+    date = record { year = 2024; month = 5; day = 1 };
+    time = record { hour = 2; minute = 30; second = 1 };
+    millisecond = 250;
+  };
+})
+    ≡ text_field (Gps, 1) (codes "S")
+    ∷ field (Gps, 2) (value.Rational
+    (whole 33 ∷ whole 51 ∷ record { num = 358999200; denom = 10000000 } ∷ []))
+    ∷ text_field (Gps, 3) (codes "E")
+    ∷ field (Gps, 4) (value.Rational
+    (whole 151 ∷ whole 12 ∷ record { num = 399999600; denom = 10000000 } ∷ []))
+    ∷ field (Gps, 5) (value.Byte (0 ∷ []))
+    ∷ field (Gps, 6) (value.Rational (record { num = 12345; denom = 1000 } ∷ []))
+    ∷ text_field (Gps, 29) (codes "2024:05:01")
+    ∷ field (Gps, 7) (value.Rational
+    (whole 2 ∷ whole 30 ∷ record { num = 1250; denom = 1000 } ∷ [])) ∷ []
 unfolding zero_filled digits
 in_sydney = refl
 
-pub near_zero : fix_text (location 900000001 1799999999 None)
-    ≡ codes "0.0000001,-0.0000001"
-unfolding zero_filled digits
-near_zero = refl
-
-pub below_the_sea : fix_text (location 900000000 1800000000 (Some 999999950))
-    ≡ codes "0.0000000,0.0000000,-0.050"
-unfolding zero_filled digits
+-- 50 mm below the sea
+pub below_the_sea : altitude_fields (Some 999999950)
+    ≡ field (Gps, 5) (value.Byte (1 ∷ []))
+    ∷ field (Gps, 6) (value.Rational (record { num = 50; denom = 1000 } ∷ [])) ∷ []
 below_the_sea = refl
+
+-- at the equator and at Greenwich, with no fraction of a second
+pub at_zero : latitude_fields 900000000 ++ longitude_fields 1800000000
+    ≡ text_field (Gps, 1) (codes "N")
+    ∷ field (Gps, 2) (value.Rational (whole 0 ∷ whole 0
+    ∷ record { num = 0; denom = 10000000 } ∷ []))
+    ∷ text_field (Gps, 3) (codes "E")
+    ∷ field (Gps, 4) (value.Rational (whole 0 ∷ whole 0
+    ∷ record { num = 0; denom = 10000000 } ∷ [])) ∷ []
+at_zero = refl
 
 -- ---- files
 

@@ -2,15 +2,13 @@ pub mod Erasing
 pub mod Located
 pub mod Relocating
 pub mod Replaced
-pub mod SpotValues
+pub mod SpotFields
 pub mod Spots
-pub mod Stamps
 pub mod Between
 pub mod Elements
 pub mod Errors
 pub mod Examples
 pub mod Faults
-pub mod FixTexts
 pub mod Formats
 pub mod Gaps
 pub mod Moments

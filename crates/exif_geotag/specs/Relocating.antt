@@ -1,14 +1,14 @@
 -- A picture that gets another location.
 use Rattle.std.specs.Prelude.{◌≡◌, ℕ, ◌+◌, List, [], length, map, Option, Result, Ok, Err}
-use Rattle.exif_assign.specs.declared.assignment.Assignment.{Assignment}
 use Rattle.exif_change.specs.Changed.{Undone, undone_of}
 use Rattle.exif_change.specs.Refusals.{Why, ◌>>=◌}
-use Rattle.exif_pictures.specs.Pictures.{picture_set}
+use Rattle.exif_pictures.specs.Pictures.{picture_fields_set}
+use Rattle.exif_types.specs.declared.field.Field.{Field}
 use Rattle.exif_types.specs.declared.tag.Tag.{Tag}
 use Rattle.exif_geotag.specs.Erasing.{all_erased}
 use Rattle.exif_geotag.specs.declared.relocating.Relocated.{Relocated}
 
--- the new bytes, what was left undone of the values, and which old fields stay
+-- the new bytes, what was left undone of the fields, and which old fields stay
 pub record Relocation : Type 0 where
   pub file : List ℕ
   pub undone : List (Option Undone)
@@ -26,10 +26,10 @@ relocation_of made = record {
 abbrev pub with_erased : List (Option Undone) → List ℕ × List Tag → Relocation
 with_erased undone (file, kept) = record { file = file; undone = undone; kept = kept }
 
--- the values are set, and then the old fields are taken out
-abbrev pub relocated : List Assignment → List Tag → List ℕ → Result Relocation Why
-relocated values stale file =
-    picture_set values file
+-- the fields are set, and then the old fields are taken out
+abbrev pub relocated : List Field → List Tag → List ℕ → Result Relocation Why
+relocated fields stale file =
+    picture_fields_set fields file
     >>= λ made. Ok (with_erased made.undone (all_erased stale (made.file, [])))
 
 -- the new bytes alone
@@ -42,9 +42,9 @@ abbrev pub undone_by : Result Relocation Why → ℕ
 undone_by (Ok made) = length made.undone + length made.kept
 undone_by (Err why) = 0
 
-abbrev pub undone_in : List Assignment → List Tag → List ℕ → ℕ
-undone_in values stale old = undone_by (relocated values stale old)
+abbrev pub undone_in : List Field → List Tag → List ℕ → ℕ
+undone_in fields stale old = undone_by (relocated fields stale old)
 
 -- the bytes of the new file are exactly these
-abbrev pub IsRelocated : List Assignment → List Tag → List ℕ → List ℕ → Type 0
-IsRelocated values stale old new = file_of (relocated values stale old) ≡ Ok new
+abbrev pub IsRelocated : List Field → List Tag → List ℕ → List ℕ → Type 0
+IsRelocated fields stale old new = file_of (relocated fields stale old) ≡ Ok new

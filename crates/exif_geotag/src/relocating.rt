@@ -5,10 +5,10 @@ ghost use Rattle.exif_change.specs.Refusals.{Answers};
 ghost use Rattle.exif_geotag.specs.Relocating.{IsRelocated, relocated, relocation_of, undone_in};
 
 use crate::erasing::erase_all;
-use exif_change::{Assignment, Changed, Left, Note, Refusal};
+use exif_change::{Changed, Left, Note, Refusal};
 use exif_files::{Edit, EditError, Edited, Report};
-use exif_pictures::set;
-use exif_types::Tag;
+use exif_pictures::set_fields;
+use exif_types::{Field, Tag};
 use std::alloc::{AllocError, Global};
 use std::fmt;
 
@@ -17,34 +17,34 @@ use std::fmt;
 pub struct Relocated {
     /// The new bytes.
     pub file: Vec<u8>,
-    /// What was left undone of the values.
+    /// What was left undone of the fields.
     pub left: Vec<Left>,
     /// The fields of the old location that stay.
     pub kept: Vec<Tag>,
 }
 
-/// The picture with values set, as [`set`] does, and then without fields of its old location. Of
-/// those each is taken out that can be with no other byte changed.
+/// The picture with fields set, as [`set_fields`] does, and then without fields of its old
+/// location. Of those each is taken out that can be with no other byte changed.
 pub fn relocate(
     alloc: Global,
     file: Vec<u8>,
-    values: &[Assignment<'_>],
+    fields: &[Field],
     stale: &[Tag],
 ) -> Result<Relocated, Refusal>
-    ensures { Answers relocation_of result (relocated values.now stale.now file.items) }
+    ensures { Answers relocation_of result (relocated fields.now stale.now file.items) }
 {
-    let Changed { mut file, left } = set(alloc, file, values)?;
+    let Changed { mut file, left } = set_fields(alloc, file, fields)?;
     let kept = erase_all(alloc, stale, file.as_mut_slice())?;
     Ok(Relocated { file, left, kept })
 }
 
 /// Another location for pictures, as an edit of files.
 #[derive(Clone, Copy)]
-pub struct Relocation<'v, 'a> {
-    /// The values of the location, and its time.
-    pub values: &'v [Assignment<'a>],
+pub struct Relocation<'f> {
+    /// The fields of the location, and of its time.
+    pub fields: &'f [Field],
     /// The fields of the old location.
-    pub stale: &'v [Tag],
+    pub stale: &'f [Tag],
 }
 
 /// What was left undone where a picture gets another location.
@@ -74,7 +74,7 @@ impl fmt::Display for Unfinished {
     }
 }
 
-// Adds what was left undone of the values.
+// Adds what was left undone of the fields.
 fn add_changes(left: Vec<Left>, all: &mut Vec<Unfinished>) -> Result<(), AllocError>
     ensures { OnOk result (length all.new.items ≡ length all.old.items + length left.items) }
 {
@@ -109,16 +109,16 @@ fn edited(alloc: Global, made: Relocated) -> Result<Edited<Unfinished, Note>, Al
     Ok(Edited { file, report })
 }
 
-impl<'v, 'a> Edit for Relocation<'v, 'a> {
+impl<'f> Edit for Relocation<'f> {
     type Left = Unfinished;
 
     type Note = Note;
 
     type Refusal = Refusal;
 
-    ghost answer = { λ edit. IsRelocated edit.values.now edit.stale.now };
+    ghost answer = { λ edit. IsRelocated edit.fields.now edit.stale.now };
 
-    ghost undone = { λ edit. undone_in edit.values.now edit.stale.now };
+    ghost undone = { λ edit. undone_in edit.fields.now edit.stale.now };
 
     fn apply(
         &self,
@@ -128,7 +128,7 @@ impl<'v, 'a> Edit for Relocation<'v, 'a> {
         let Ok(file) = Vec::from_slice(alloc, old) else {
             return Err(EditError::OutOfMemory);
         };
-        match relocate(alloc, file, self.values, self.stale) {
+        match relocate(alloc, file, self.fields, self.stale) {
             Ok(relocated) => match edited(alloc, relocated) {
                 Ok(edited) => Ok(edited),
                 Err(_memory) => Err(EditError::OutOfMemory),

@@ -10,7 +10,7 @@ use exif_text::date::{read_date, read_time};
 use exif_text::digits::two_digits;
 
 // How many bytes a date and a clock have: `YYYY-MM-DDTHH:MM:SS`.
-const FRONT: usize = 19;
+const DATE_TIME_LEN: usize = 19;
 
 // The milliseconds of a minute.
 const MINUTE: u64 = 60_000;
@@ -132,7 +132,7 @@ fn date_time_of(mark: u8, text: &[u8]) -> Option<u64>
     ensures small { IfSome result (λ time. time < 2 ^ 59) }
     ensures long { IfSome result (λ time. 19 ≤ length text.now) }
 {
-    if text.len() < FRONT || !is_split(mark, text) {
+    if text.len() < DATE_TIME_LEN || !is_split(mark, text) {
         return None;
     }
     milliseconds_of(text)
@@ -159,7 +159,7 @@ pub fn time_of(text: &[u8]) -> Option<u64>
     ensures { result ≡ time_of text.now }
 {
     let whole = date_time_of(b'-', text)?;
-    ended(whole, &text[FRONT..])
+    ended(whole, &text[DATE_TIME_LEN..])
 }
 
 /// The time of a date of Exif data, in the unit of `time_of`: `date` is `YYYY:MM:DD HH:MM:SS`, and

@@ -5,6 +5,7 @@ pub mod Naming
 pub mod Pending
 pub mod Progress
 pub mod Shown
+pub mod Stamps
 pub mod Thumbnails
 pub mod Uses
-pub mod Wished
+pub mod Requested

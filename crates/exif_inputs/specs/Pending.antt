@@ -1,7 +1,10 @@
 -- The files that wait, and what comes next of each.
-use Rattle.std.specs.Prelude.{◌≡◌, ◌⊎◌, ℕ, Bool, true, false, List, ◌++◌, map, reverse, Option, Some, None, string_bytes}
+use Rattle.std.specs.Prelude.{◌≡◌, ◌⊎◌, ℕ, Bool, true, false, if◌then◌else◌, List, [], ◌∷◌, ◌++◌, map, reverse, Option, Some, None, Result, Ok, Err, string_bytes}
+use Rattle.std.specs.Global.{Global}
+use Rattle.std.specs.declared.string.String.{String}
+use Rattle.std.specs.List.{flat_map}
 use Rattle.exif_decisions.specs.Names.{names_listed}
-use Rattle.exif_decisions.specs.Paths.{name_of}
+use Rattle.exif_decisions.specs.Paths.{is_inside, name_of}
 use Rattle.exif_decisions.specs.Rules.{action_for}
 use Rattle.exif_decisions.specs.Tallies.{one_more}
 use Rattle.exif_decisions.specs.declared.counts.Counts.{Counts}
@@ -23,8 +26,9 @@ waiting_of waiting = (string_bytes waiting.path, waiting.is_named)
 abbrev pub named : List ℕ → List ℕ × Bool
 named path = (path, true)
 
-abbrev pub found : List ℕ → List ℕ × Bool
-found path = (path, false)
+-- how files of these paths wait: the last of what waits is next
+abbrev pub turned : Bool → List (String Global) → List (List ℕ × Bool)
+turned is_named paths = reverse (map (λ path. (path, is_named)) (map string_bytes paths))
 
 -- what waits with the names that bytes list, which come before those that waited; the last is next
 abbrev pub with_names : List ℕ → List (List ℕ × Bool) → List (List ℕ × Bool)
@@ -35,6 +39,14 @@ pub record AreAdded (old new left all : List (List ℕ × Bool)) : Type 0 where
   pub added : List (List ℕ × Bool)
   pub waits : new ≡ old ++ added
   pub parts : added ++ left ≡ all
+
+-- the path of what a listing of a folder names: nothing for the folder itself and the one above
+abbrev pub listed_path : List ℕ → List ℕ → List (List ℕ)
+listed_path folder name = if is_inside name then (folder ++ name) ∷ [] else []
+
+-- the paths of what it names, in its order
+abbrev pub paths_in : List ℕ → List ℕ → List (List ℕ)
+paths_in folder listing = flat_map (listed_path folder) (names_listed listing)
 
 -- what is processed next: standard input, a file that was named or found, one that goes with the
 -- pictures beside it, or a name that can't be followed
@@ -52,7 +64,12 @@ next_file (next.Found path) = the_found (string_bytes path)
 next_file (next.Beside path why) = the_beside (string_bytes path) why
 next_file (next.Failed path cause) = the_failed (string_bytes path)
 
--- a folder has no answer of its own, unless it can't be read
+-- a folder has no answer of its own, unless its names can't be read
+abbrev pub entered : {A E : Type 0} → List ℕ → Result A E → Option NextFile
+entered path (Ok names) = None
+entered path (Err cause) = Some (the_failed path)
+
+-- so whatever is read of it
 abbrev pub IsEntered : List ℕ → Option NextFile → Type 0
 IsEntered path answer = (answer ≡ None) ⊎ (answer ≡ Some (the_failed path))
 

@@ -1,6 +1,7 @@
 -- The thumbnail of a picture: where it is, and why there is none.
 use Rattle.std.specs.Prelude.{ℕ, List, codes, Option, Some, None, Result, Ok, Err}
 use Rattle.exif_change.specs.Refusals.{Why, no_thumbnail, reading}
+use Rattle.exif_containers.specs.declared.container.Format.TheVariants as known
 use Rattle.exif_formats.specs.declared.format.PictureFormat.{PictureFormat}
 use Rattle.exif_formats.specs.declared.format.PictureFormat.TheVariants as format
 use Rattle.exif_thumbnails.specs.declared.reading.Thumbnail.{Thumbnail}
@@ -14,12 +15,12 @@ use Rattle.exif_inputs.specs.declared.thumbnails.Kept.TheVariants as kept
 abbrev pub kept_in : Option PictureFormat → Kept
 kept_in None = kept.Data
 kept_in (Some format.Cr3) = kept.Box
-kept_in (Some format.Tiff) = kept.File
+kept_in (Some (format.Container known.Tiff)) = kept.File
 kept_in (Some format.Orf) = kept.File
 kept_in (Some format.Rw2) = kept.Stream
-kept_in (Some format.Heif) = kept.Items
-kept_in (Some format.Jpeg) = kept.Data
-kept_in (Some format.WebP) = kept.Data
+kept_in (Some (format.Container known.Heif)) = kept.Items
+kept_in (Some (format.Container known.Jpeg)) = kept.Data
+kept_in (Some (format.Container known.WebP)) = kept.Data
 kept_in (Some format.Png) = kept.Data
 kept_in (Some format.JpegXl) = kept.Data
 kept_in (Some format.Raf) = kept.Data

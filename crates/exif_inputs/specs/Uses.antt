@@ -8,7 +8,7 @@ use Rattle.exif_decisions.specs.declared.found.Found.{Found}
 use Rattle.exif_decisions.specs.declared.found.Found.TheVariants as found
 use Rattle.exif_formats.specs.Formats.{format_in}
 use Rattle.exif_formats.specs.declared.format.PictureFormat.{PictureFormat}
-use Rattle.exif_formats.specs.declared.format.PictureFormat.TheVariants.{Tiff, Jpeg, Heif, WebP, Png, JpegXl, Raf, Orf, Rw2, Cr3}
+use Rattle.exif_formats.specs.declared.format.PictureFormat.TheVariants.{Container, Png, JpegXl, Raf, Orf, Rw2, Cr3}
 use Rattle.exif_inputs.specs.declared.inputs.Input.{Input}
 use Rattle.exif_inputs.specs.declared.inputs.Input.TheVariants as input
 use Rattle.exif_inputs.specs.declared.inputs.Use.{Use}
@@ -20,10 +20,7 @@ has_parts Raf = false
 has_parts Orf = false
 has_parts Rw2 = false
 has_parts Cr3 = false
-has_parts Tiff = true
-has_parts Jpeg = true
-has_parts Heif = true
-has_parts WebP = true
+has_parts (Container format) = true
 has_parts Png = true
 has_parts JpegXl = true
 

@@ -1,9 +1,12 @@
 //! Messages on standard error. Where it is closed or full they are lost, and the work goes on.
 
+ghost use Rattle.std.specs.Prelude.{◌≡◌, IfErr};
+
 use crate::progress::Progress;
 use exif::Sink;
 use exif_base::send_all;
 use exif_decisions::Escaped;
+use std::alloc::AllocError;
 use std::fmt::Display;
 
 /// Standard error, with a line of progress.
@@ -27,7 +30,15 @@ impl<'r, E: Sink> Console<'r, E> {
     /// Writes a message about a file.
     pub fn say<T: Display>(&mut self, path: &str, what: &T) {
         let path = Escaped(path);
-        if let Ok(line) = format!(in self.rt.alloc(); "mexaldor: {path}: {what}\n") {
+        let line = format!(in self.rt.alloc(); "mexaldor: {path}: {what}\n");
+        self.write_made(line);
+    }
+
+    // Writes a line, if there was memory for it.
+    fn write_made(&mut self, line: Result<String, AllocError>)
+        ensures lost { IfErr line (λ e. self.new ≡ self.old) }
+    {
+        if let Ok(line) = line {
             self.write(line.as_str());
         }
     }

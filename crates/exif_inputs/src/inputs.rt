@@ -50,10 +50,17 @@ fn read_all<R: Read + Drop>(alloc: Global, mut reader: R) -> io::Result<Vec<u8>>
 
 /// All the bytes of a file, `-` for standard input.
 pub fn read_file(rt: &HostRuntime, path: &str) -> io::Result<Vec<u8>> {
-    if path == "-" {
-        return read_all(rt.alloc(), rt.stdin());
+    bytes_of(rt.alloc(), open(rt, path)?)
+}
+
+// All the bytes of what is read.
+fn bytes_of(alloc: Global, input: Input) -> io::Result<Vec<u8>>
+    ensures { IfOk result (λ bytes. IfSome (held input) (λ all. bytes.items ≡ all)) }
+{
+    match input {
+        Input::File(file) => read_all(alloc, file),
+        Input::Bytes(bytes) => Ok(bytes),
     }
-    read_all(rt.alloc(), File::open(rt, path)?)
 }
 
 /// What is done with a picture.
@@ -71,8 +78,7 @@ fn has_parts(format: PictureFormat) -> bool
 {
     match format {
         PictureFormat::Raf | PictureFormat::Orf | PictureFormat::Rw2 | PictureFormat::Cr3 => false,
-        PictureFormat::Tiff | PictureFormat::Jpeg | PictureFormat::Heif => true,
-        PictureFormat::WebP | PictureFormat::Png | PictureFormat::JpegXl => true,
+        PictureFormat::Container(_) | PictureFormat::Png | PictureFormat::JpegXl => true,
     }
 }
 

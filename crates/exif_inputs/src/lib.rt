@@ -10,9 +10,9 @@ mod lines;
 mod naming;
 mod pending;
 mod progress;
+mod requests;
 mod stamps;
 mod thumbnails;
-mod wishes;
 
 pub use choosing::{exif_if_any, exif_of, is_chosen};
 pub use console::Console;
@@ -20,6 +20,6 @@ pub use inputs::{Input, Use, found_in_folder, open, read, read_file};
 pub use lines::Lines;
 pub use naming::{NewName, name_by};
 pub use pending::{Next, Pending, Waiting};
+pub use requests::{absolute_by, folder_for, in_folder, request_for, sidecars_of};
 pub use stamps::{FileStamp, stamp_of};
 pub use thumbnails::{jpeg_of, thumbnail_of};
-pub use wishes::{absolute_by, folder_for, in_folder, sidecars_of, wish_for};

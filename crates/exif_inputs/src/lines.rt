@@ -1,6 +1,7 @@
 //! The lines of a report as they are shown: control characters escaped, long values in short.
 
-ghost use Rattle.std.specs.Prelude.{◌≡◌, ◌++◌, ◌-◌, ◌<◌, ◌≤◌, ◌+◌, IfOk, OnOk, codes, drop, length, min, slice_index, string_bytes, take};
+ghost use Rattle.std.specs.Prelude.{◌≡◌, ◌++◌, ◌-◌, ◌<◌, ◌≤◌, ◌+◌, IfOk, OnErr, OnOk, codes, drop, is_some, length, min, slice_index, string_bytes, take, true};
+ghost use Rattle.std.specs.Io.KnownBytes.{Appends};
 ghost use Rattle.std.specs.Str.{chars};
 ghost use Rattle.exif_decisions.specs.Escaping.{escaped_text};
 ghost use Rattle.exif_inputs.specs.Lines.{added, front_of, in_short, line_len, name_len, shown, spaces_of};
@@ -44,11 +45,22 @@ impl<'w, W: Sink> Lines<'w, W> {
         self.failed
     }
 
+    // Shows the line, and begins another one.
     fn show(&mut self) -> io::Result<()> {
         let line = String::from_utf8_lossy(self.alloc, self.line.as_slice())?;
         self.line.clear();
         let shown = shown(self.alloc, line.as_str(), self.full)?;
-        match send_all(self.out, shown.as_bytes()) {
+        self.send(shown.as_str())
+    }
+
+    // Sends a text to the output, and keeps why it took no more.
+    fn send(&mut self, text: &str) -> io::Result<()>
+        ensures sent { OnOk result (Appends (W.taken self.old.out.now)
+            (W.taken self.new.out.now) text.now) }
+        ensures failed { OnErr result (is_some self.new.failed ≡ true) }
+        ensures kept { OnOk result (self.new.failed ≡ self.old.failed) }
+    {
+        match send_all(self.out, text.as_bytes()) {
             Ok(()) => Ok(()),
             Err(error) => {
                 let kind = error.kind();

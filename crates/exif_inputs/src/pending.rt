@@ -1,19 +1,19 @@
 //! The files that are named, and those in folders, one after the other.
 
-ghost use Rattle.std.specs.Prelude.{◌≡◌, ◌≢◌, ◌++◌, ℕ, Bool, List, IfOk, IfSome, None, OnOk, length, map, option_map, reverse, string_bytes};
+ghost use Rattle.std.specs.Prelude.{◌≡◌, ◌≢◌, ◌++◌, ℕ, Bool, List, IfErr, IfOk, IfSome, None, OnOk, Some, length, map, option_map, reverse, string_bytes, false};
 ghost use Rattle.exif_decisions.specs.Names.{names_listed};
 ghost use Rattle.exif_decisions.specs.Paths.{name_of};
 ghost use Rattle.exif_decisions.specs.Rules.{look_for};
 ghost use Rattle.exif_decisions.specs.Tallies.{no_counts};
 ghost use Rattle.exif_decisions.specs.declared.rules.Action.TheVariants.{Enter};
-ghost use Rattle.exif_inputs.specs.Pending.{AreAdded, IsActed, IsEntered, IsFollowed, counted_action, found, named, next_file, waiting_of, with_names};
+ghost use Rattle.exif_inputs.specs.Pending.{AreAdded, IsActed, IsFollowed, IsLookedAt, IsOfKind, counted_action, entered, listed_path, named, next_file, paths_in, the_failed, turned, waiting_of, with_names};
 
 use exif_decisions::{
     Action, Counts, Kind, Look, NotRead, action_of, is_inside, kind_of, look_of, name_of,
-    names_listed, readable, slash_after,
+    names_listed, slash_after,
 };
 use std::alloc::{AllocError, Global};
-use std::fs;
+use std::fs::{self, Metadata};
 use std::io::{self, ErrorKind, Read};
 use std::rt::Files;
 
@@ -101,7 +101,6 @@ impl Pending {
     }
 
     // Adds names that are each ended by a zero byte, before those that wait.
-    #[tactic(auto, using(crate::proofs::PendingLemmas::all_added))]
     fn add_listed(&mut self, alloc: Global, names: &[u8]) -> Result<(), AllocError>
         ensures waiting { OnOk result (map waiting_of self.new.waiting.items
             ≡ with_names names.now (map waiting_of self.old.waiting.items)) }
@@ -111,12 +110,23 @@ impl Pending {
         ensures counts { self.new.counts ≡ self.old.counts }
         ensures recursive { self.new.recursive ≡ self.old.recursive }
     {
-        let mut paths = names_listed(alloc, names)?;
+        let paths = names_listed(alloc, names)?;
+        self.add_all(paths, true)
+    }
+
+    // Has files of these paths wait, before the others: the first of them is the next.
+    #[tactic(auto, using(crate::proofs::PendingLemmas::all_added))]
+    fn add_all(&mut self, mut paths: Vec<String>, is_named: bool) -> Result<(), AllocError>
+        ensures waiting { OnOk result (map waiting_of self.new.waiting.items
+            ≡ map waiting_of self.old.waiting.items ++ turned is_named paths.items) }
+        ensures partly { (left : List (List ℕ × Bool)) × AreAdded
+            (map waiting_of self.old.waiting.items) (map waiting_of self.new.waiting.items)
+            left (turned is_named paths.items) }
+        ensures counts { self.new.counts ≡ self.old.counts }
+        ensures recursive { self.new.recursive ≡ self.old.recursive }
+    {
         while let Some(path) = paths.pop() {
-            self.waiting.push(Waiting {
-                path,
-                is_named: true,
-            })?;
+            self.waiting.push(Waiting { path, is_named })?;
         }
         Ok(())
     }
@@ -161,14 +171,42 @@ impl Pending {
                 );
                 Ok(Some(Next::Failed(path, cause)))
             }
-            Look::Path => match kind_at(rt, path.as_str(), is_named) {
-                Ok(kind) => {
-                    let name = name_of(path.as_str());
-                    let action = action_of(kind, is_named, name, self.recursive);
-                    self.act(rt, action, path)
-                }
-                Err(cause) => Ok(Some(Next::Failed(path, cause))),
-            },
+            Look::Path => {
+                // the links of a name that was given are followed
+                let found = if is_named {
+                    fs::metadata(rt, path.as_str())
+                } else {
+                    fs::symlink_metadata(rt, path.as_str())
+                };
+                self.act_by(rt, kind_in(found), path, is_named)
+            }
+        }
+    }
+
+    // What is done with a path of a kind, or with one that can't be followed.
+    fn act_by(
+        &mut self,
+        rt: &HostRuntime,
+        kind: io::Result<Kind>,
+        path: String,
+        is_named: bool,
+    ) -> Result<Option<Next>, AllocError>
+        ensures kind { IfOk kind (λ kind. IfOk result (λ next.
+            IsOfKind (string_bytes path) is_named self.old.recursive self.old.counts
+            self.new.counts (option_map next_file next) kind)) }
+        ensures failed { IfErr kind (λ cause. IfOk result (λ next.
+            option_map next_file next ≡ Some (the_failed (string_bytes path)))) }
+        ensures kept { IfErr kind (λ cause. self.new ≡ self.old) }
+        ensures looked { IfOk result (λ next. IsLookedAt (string_bytes path) is_named
+            self.old.recursive self.old.counts self.new.counts (option_map next_file next)) }
+        ensures recursive { self.new.recursive ≡ self.old.recursive }
+    {
+        match kind {
+            Ok(kind) => {
+                let action = action_of(kind, is_named, name_of(path.as_str()), self.recursive);
+                self.act(rt, action, path)
+            }
+            Err(cause) => Ok(Some(Next::Failed(path, cause))),
         }
     }
 
@@ -188,7 +226,10 @@ impl Pending {
         match action {
             Action::Process => Ok(Some(Next::Named(path))),
             Action::ProcessPicture => Ok(Some(Next::Found(path))),
-            Action::Enter => self.enter(rt, path),
+            Action::Enter => {
+                let names = names_in(rt, path.as_str());
+                self.enter(path, names)
+            }
             Action::RefuseFolder => {
                 let cause = io::Error::new(ErrorKind::IsADirectory, "is a folder; use -r");
                 Ok(Some(Next::Failed(path, cause)))
@@ -210,23 +251,25 @@ impl Pending {
         }
     }
 
-    // Has the files of a folder wait, in the order of their names, before the others.
-    fn enter(&mut self, rt: &HostRuntime, path: String) -> Result<Option<Next>, AllocError>
-        ensures next { IfOk result (λ next.
-            IsEntered (string_bytes path) (option_map next_file next)) }
+    // Has the files of a folder wait, in their order, before the others, or tells why it can't be
+    // read.
+    fn enter(
+        &mut self,
+        path: String,
+        names: io::Result<Vec<String>>,
+    ) -> Result<Option<Next>, AllocError>
+        ensures next { IfOk result (λ next. option_map next_file next
+            ≡ entered (string_bytes path) names) }
+        ensures waiting { IfOk names (λ names. IfOk result (λ next.
+            map waiting_of self.new.waiting.items
+            ≡ map waiting_of self.old.waiting.items ++ turned false names.items)) }
+        ensures kept { IfErr names (λ cause. self.new ≡ self.old) }
         ensures counts { self.new.counts ≡ self.old.counts }
         ensures recursive { self.new.recursive ≡ self.old.recursive }
-        ensures waiting { (paths : List (List ℕ)) × (map waiting_of self.new.waiting.items
-            ≡ map waiting_of self.old.waiting.items ++ map found paths) }
     {
-        match names_in(rt, path.as_str()) {
+        match names {
             Ok(names) => {
-                for path in names.into_iter().rev() {
-                    self.waiting.push(Waiting {
-                        path,
-                        is_named: false,
-                    })?;
-                }
+                self.add_all(names, false)?;
                 Ok(None)
             }
             Err(cause) => Ok(Some(Next::Failed(path, cause))),
@@ -234,13 +277,9 @@ impl Pending {
     }
 }
 
-// The kind of a path. The links of one that was named are followed.
-fn kind_at(rt: &HostRuntime, path: &str, is_named: bool) -> io::Result<Kind> {
-    let found = if is_named {
-        fs::metadata(rt, path)?
-    } else {
-        fs::symlink_metadata(rt, path)?
-    };
+// The kind of what was found.
+fn kind_in(found: io::Result<Metadata>) -> io::Result<Kind> {
+    let found = found?;
     Ok(kind_of(found.is_dir(), found.is_file(), found.is_symlink()))
 }
 
@@ -250,31 +289,55 @@ fn names_in(rt: &HostRuntime, path: &str) -> io::Result<Vec<String>> {
     // a slash has the system follow a link
     let slash = slash_after(path);
     let folder = format!(in alloc; "{path}{slash}")?;
-    let listing = listing_of(rt, folder.as_str())?;
-    let mut names = Vec::new(alloc);
-    for name in listing.split(|byte| *byte == 0) {
-        if is_inside(name) {
-            let mut path = String::from_str(alloc, folder.as_str())?;
-            path.push_str(readable(alloc, name)?.as_str())?;
-            names.push(path)?;
-        }
-    }
-    names.sort()?;
-    Ok(names)
+    let listing = read_blocks(alloc, rt.open_dir(folder.as_str())?)?;
+    let mut paths = paths_in(alloc, folder.as_str(), listing.as_slice())?;
+    paths.sort()?;
+    Ok(paths)
 }
 
-// The names of what is in a folder, each ended by a zero byte. The system gives whole names alone,
-// hence each read has room for one.
-fn listing_of(rt: &HostRuntime, folder: &str) -> io::Result<Vec<u8>> {
-    let mut dir = rt.open_dir(folder)?;
-    let mut listing = Vec::new(rt.alloc());
+// The paths of what a listing of a folder names, in its order.
+fn paths_in(alloc: Global, folder: &str, listing: &[u8]) -> Result<Vec<String>, AllocError>
+    ensures { IfOk result (λ paths. map string_bytes paths.items
+        ≡ paths_in folder.now listing.now) }
+{
+    let names = names_listed(alloc, listing)?;
+    let mut paths = Vec::new(alloc);
+    for name in names.as_slice() {
+        push_path(alloc, folder, name.as_str(), &mut paths)?;
+    }
+    Ok(paths)
+}
+
+// Adds the path of a name, unless it is that of the folder itself or of the one above.
+fn push_path(
+    alloc: Global,
+    folder: &str,
+    name: &str,
+    paths: &mut Vec<String>,
+) -> Result<(), AllocError>
+    ensures { OnOk result (map string_bytes paths.new.items
+        ≡ map string_bytes paths.old.items ++ listed_path folder.now name.now) }
+{
+    if is_inside(name.as_bytes()) {
+        paths.push(format!(in alloc; "{folder}{name}")?)?;
+    }
+    Ok(())
+}
+
+// All the bytes that a reader holds. A listing gives whole names alone, hence each read has space
+// for one.
+#[tactic(auto, using(crate::proofs::PendingLemmas::none_read, crate::proofs::PendingLemmas::one_read, crate::proofs::PendingLemmas::all_read))]
+fn read_blocks<R: Read + Drop>(alloc: Global, mut reader: R) -> io::Result<Vec<u8>>
+    ensures { IfOk result (λ bytes. IfSome (R.remaining reader) (λ all. bytes.items ≡ all)) }
+{
+    let mut bytes = Vec::new(alloc);
     let mut block = [0u8; BLOCK];
     for _ in 0..u64::MAX {
-        let n = dir.read(&mut block)?;
+        let n = reader.read(&mut block)?;
         if n == 0 {
-            break;
+            return Ok(bytes);
         }
-        listing.extend_from_slice(&block[..n])?;
+        bytes.extend_from_slice(&block[..n])?;
     }
-    Ok(listing)
+    Err(io::Error::from(ErrorKind::OutOfMemory))
 }

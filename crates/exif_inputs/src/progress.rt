@@ -1,12 +1,14 @@
 //! A line of progress.
 
-ghost use Rattle.std.specs.Prelude.{◌≡◌, None, false, is_some, true};
+ghost use Rattle.std.specs.Prelude.{◌≡◌, IfOk, None, Some, false, is_some, string_bytes, true};
+ghost use Rattle.exif_decisions.specs.Tallies.{one_more};
 ghost use Rattle.exif_base.specs.Sent.{Sends};
-ghost use Rattle.exif_inputs.specs.Progress.{cleared_line};
+ghost use Rattle.exif_inputs.specs.Progress.{cleared_line, step_line};
 
 use exif::Sink;
 use exif_base::send_all;
 use exif_decisions::is_line_due;
+use std::alloc::{AllocError, Global};
 use std::io;
 use std::time::Instant;
 
@@ -30,24 +32,24 @@ impl Progress {
     }
 
     /// Another file is done, and so many are left.
-    pub fn step<E: Sink>(
-        &mut self,
-        rt: &HostRuntime,
-        waiting: usize,
-        err: &mut E,
-    ) -> io::Result<()> {
+    pub fn step<E: Sink>(&mut self, rt: &HostRuntime, waiting: usize, err: &mut E) -> io::Result<()>
+        ensures done { self.new.done ≡ one_more self.old.done }
+        ensures hidden { self.old.is_shown ≡ false → err.new ≡ err.old }
+    {
         self.done = self.done.saturating_add(1);
-        if !self.is_shown || !self.is_due(rt)? {
+        if !self.is_shown || !self.is_due(Instant::now(rt)?) {
             return Ok(());
         }
-        let done = self.done;
-        let line = format!(in rt.alloc(); "\r\x1b[K{done} files done, {waiting} left")?;
+        let line = step_line(rt.alloc(), self.done, waiting)?;
         send_all(err, line.as_bytes())
     }
 
-    // Whether the line is to be written again.
-    fn is_due(&mut self, rt: &HostRuntime) -> io::Result<bool> {
-        let now = Instant::now(rt)?;
+    // Whether the line is to be written again now. It counts as written then.
+    fn is_due(&mut self, now: Instant) -> bool
+        ensures first { is_some self.old.written ≡ false → result ≡ true }
+        ensures written { result ≡ true → self.new ≡ record self.old { written = Some now } }
+        ensures kept { result ≡ false → self.new ≡ self.old }
+    {
         let since = match self.written {
             Some(last) => Some(now.saturating_duration_since(last).as_millis()),
             None => None,
@@ -56,7 +58,7 @@ impl Progress {
         if is_due {
             self.written = Some(now);
         }
-        Ok(is_due)
+        is_due
     }
 
     /// Removes the line, so that another can be written; nothing is written where there is none.
@@ -71,4 +73,11 @@ impl Progress {
             None => Ok(()),
         }
     }
+}
+
+// The line: how many files were done, and how many are left.
+fn step_line(alloc: Global, done: u64, left: usize) -> Result<String, AllocError>
+    ensures { IfOk result (λ line. string_bytes line ≡ step_line done left) }
+{
+    format!(in alloc; "\r\x1b[K{done} files done, {left} left")
 }

@@ -1,6 +1,10 @@
 //! What files are at a moment, by which a change is noticed.
 
+ghost use Rattle.std.specs.Prelude.{◌≡◌};
+ghost use Rattle.exif_inputs.specs.Stamps.{stamp_by};
+
 use std::fs::{self, Metadata};
+use std::io;
 use std::os::unix::fs::MetadataExt;
 
 /// What a file is at a moment. Times are in seconds from 1970 on, and the nanoseconds behind them.
@@ -35,11 +39,19 @@ impl FileStamp {
     };
 }
 
-/// What a regular file is now.
+/// What a regular file is now; nothing is known of anything else.
 pub fn stamp_of(rt: &HostRuntime, path: &str) -> FileStamp {
-    match fs::metadata(rt, path) {
-        Ok(found) if found.is_file() => stamp_in(&found),
-        _ => FileStamp::UNKNOWN,
+    let found = fs::metadata(rt, path).map(|found| (found.is_file(), stamp_in(&found)));
+    stamp_by(found)
+}
+
+// What is known of a file, by whether it is a regular one and what it is.
+fn stamp_by(found: io::Result<(bool, FileStamp)>) -> FileStamp
+    ensures { result ≡ stamp_by found }
+{
+    match found {
+        Ok((true, stamp)) => stamp,
+        Ok((false, _)) | Err(_) => FileStamp::UNKNOWN,
     }
 }
 

@@ -21,7 +21,7 @@ use crate::inputs::{Input, open};
 use exif::{Counted, Error, Exif, Seekable};
 use exif_change::{ENTRY_LIMIT, Refusal, thumbnail};
 use exif_formats::raw::cr3::find_thumbnail;
-use exif_formats::{Options, Picture, PictureFormat, read_bytes, read_picture};
+use exif_formats::{Format, Options, Picture, PictureFormat, read_bytes, read_picture};
 use exif_thumbnails::{
     HeifThumbnail, Place, Thumbnail, ends_search, jpg_from_raw, place_of, preview_places,
     read_cr3_preview, read_heif_thumbnail, read_place, whole_stream,
@@ -50,9 +50,9 @@ fn kept_in(format: Option<PictureFormat>) -> Kept
 {
     match format {
         Some(PictureFormat::Cr3) => Kept::Box,
-        Some(PictureFormat::Tiff | PictureFormat::Orf) => Kept::File,
+        Some(PictureFormat::Container(Format::Tiff) | PictureFormat::Orf) => Kept::File,
         Some(PictureFormat::Rw2) => Kept::Stream,
-        Some(PictureFormat::Heif) => Kept::Items,
+        Some(PictureFormat::Container(Format::Heif)) => Kept::Items,
         _ => Kept::Data,
     }
 }

@@ -1,3 +1,4 @@
 pub mod CrcSteps
 pub mod ScanSteps
 pub mod WalkSteps
+pub mod BoxHeads

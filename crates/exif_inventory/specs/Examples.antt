@@ -1,5 +1,6 @@
 -- Worked examples: the parts of files, by bytes written by hand.
 use Rattle.std.specs.Prelude.{◌≡◌, refl, ℕ, List, [], ◌∷◌, ◌++◌, codes, Some, None}
+use Rattle.exif_inventory.specs.BoxHeaders.{box_header, head_of}
 use Rattle.exif_inventory.specs.Crc.{crc32}
 use Rattle.exif_inventory.specs.JpegPieces.{between_piece, stream_piece}
 use Rattle.exif_inventory.specs.JxlPieces.{box_piece}
@@ -223,7 +224,7 @@ parts_of_jxl : inventory jxl
     ≡ Some (part kind.Picture 0 0 12 0 12 ∷ part kind.Exif 0 12 15 25 2
     ∷ part kind.Xmp 0 27 10 35 2 ∷ part kind.Unknown 0 37 13 45 5
     ∷ part kind.ContentCredentials 0 50 17 66 1 ∷ part kind.Picture 0 67 10 67 10 ∷ [])
-unfolding walked box_piece
+unfolding walked box_piece head_of box_header
 parts_of_jxl = refl
 
 -- Exif data whose offset is behind them, and a box that is cut off
@@ -236,7 +237,7 @@ jxl_cut =
 parts_of_jxl_cut : inventory jxl_cut
     ≡ Some (part kind.Picture 0 0 12 0 12 ∷ part kind.Unknown 0 12 13 20 5
     ∷ part kind.Broken 0 25 10 25 10 ∷ [])
-unfolding walked box_piece
+unfolding walked box_piece head_of box_header
 parts_of_jxl_cut = refl
 
 -- a picture that is cut off
@@ -248,7 +249,7 @@ jxl_begun =
 parts_of_jxl_begun : inventory jxl_begun
     ≡ Some (part kind.Picture 0 0 12 0 12 ∷ part kind.Xmp 0 12 10 20 2
     ∷ part kind.Picture 0 22 10 22 10 ∷ [])
-unfolding walked box_piece
+unfolding walked box_piece head_of box_header
 parts_of_jxl_begun = refl
 
 -- a file of another format

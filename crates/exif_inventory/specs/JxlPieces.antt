@@ -1,7 +1,10 @@
 -- The pieces of a JPEG XL file in its container (ISO/IEC 18181-2, clause 9).
-use Rattle.std.specs.Prelude.{ℕ, ◌+◌, List, [], ◌∷◌, length, take, drop, codes, nat_lt, Bool, true, false, ◌||◌, ◌==◌, if◌then◌else◌}
+use Rattle.std.specs.Prelude.{ℕ, ◌+◌, List, [], ◌∷◌, length, take, drop, codes, nat_lt, Bool, ◌||◌, Option, None, Some, if◌then◌else◌}
+use Rattle.std.specs.Option.{is_none}
 use Rattle.std.specs.Str.{bytes_eq}
-use Rattle.std.specs.Int.{from_be_bytes, w32, w64}
+use Rattle.std.specs.Int.{from_be_bytes, w32}
+use Rattle.exif_inventory.specs.BoxHeaders.{head_of, name_of}
+use Rattle.exif_inventory.specs.declared.boxes.Head.{Head}
 use Rattle.exif_inventory.specs.declared.kind.Kind.{Kind}
 use Rattle.exif_inventory.specs.declared.kind.Kind.TheVariants as kind
 use Rattle.exif_inventory.specs.declared.piece.Piece.{Piece}
@@ -40,7 +43,7 @@ cut_kind k = kind.Broken
 
 -- a box that is cut off, which has its type
 abbrev pub cut_box : List ℕ → Piece
-cut_box bytes = rest_of_jxl (cut_kind (box_kind (take 4 (drop 4 bytes)))) bytes
+cut_box bytes = rest_of_jxl (cut_kind (box_kind (name_of bytes))) bytes
 
 -- a box of this kind and length, of which so many bytes come before its data
 abbrev pub kind_box : Kind → ℕ → ℕ → Piece
@@ -72,47 +75,20 @@ exif_box bytes header len =
 -- a box whose header has so many bytes, and which has this length in all
 abbrev pub whole_box : List ℕ → ℕ → ℕ → Piece
 whole_box bytes header len =
-    if bytes_eq (take 4 (drop 4 bytes)) (codes "Exif") then exif_box bytes header len else
-    other_box (take 4 (drop 4 bytes)) header len
+    if bytes_eq (name_of bytes) (codes "Exif") then exif_box bytes header len else
+    other_box (name_of bytes) header len
 
--- a box of this size, if it is whole
-abbrev pub sized_box : List ℕ → ℕ → ℕ → Piece
-sized_box bytes header size =
-    if nat_lt size header || nat_lt (length bytes) size then cut_box bytes else
-    whole_box bytes header size
-
--- a box whose size has eight bytes
-abbrev pub large_box : List ℕ → Piece
-large_box bytes =
-    if nat_lt (length bytes) 16 then cut_box bytes else
-    sized_box bytes 16 (from_be_bytes w64 (take 8 (drop 8 bytes)))
-
--- a box, by its first four bytes: 0 goes to the end of the file, and 1 is behind the type
-abbrev pub given_box : List ℕ → ℕ → Piece
-given_box bytes size =
-    if size == 0 then whole_box bytes 8 (length bytes) else
-    if size == 1 then large_box bytes else sized_box bytes 8 size
+-- a box with this header, or all bytes that are left, where they hold no whole box
+abbrev pub headed_box : List ℕ → Option Head → Piece
+headed_box bytes None = cut_box bytes
+headed_box bytes (Some head) = whole_box bytes head.front head.len
 
 -- the box at the front of bytes
 unfoldable pub box_piece : List ℕ → Piece
 box_piece bytes =
     if nat_lt (length bytes) 8 then rest_of_jxl kind.Broken bytes else
-    given_box bytes (from_be_bytes w32 (take 4 bytes))
-
--- whether a box of this size, whose header has so many bytes, is not whole
-abbrev pub is_cut_size : List ℕ → ℕ → ℕ → Bool
-is_cut_size bytes header size = nat_lt size header || nat_lt (length bytes) size
-
--- the same of one whose size has eight bytes
-abbrev pub is_cut_large : List ℕ → Bool
-is_cut_large bytes =
-    if nat_lt (length bytes) 16 then true else
-    is_cut_size bytes 16 (from_be_bytes w64 (take 8 (drop 8 bytes)))
+    headed_box bytes (head_of bytes)
 
 -- whether the box at the front of bytes is cut off
 abbrev pub is_cut_box : List ℕ → Bool
-is_cut_box bytes =
-    if nat_lt (length bytes) 8 then true else
-    if from_be_bytes w32 (take 4 bytes) == 0 then false else
-    if from_be_bytes w32 (take 4 bytes) == 1 then is_cut_large bytes else
-    is_cut_size bytes 8 (from_be_bytes w32 (take 4 bytes))
+is_cut_box bytes = is_none (head_of bytes)

@@ -4,9 +4,11 @@ pub mod JpegPieces
 pub mod Resources
 pub mod WebpPieces
 pub mod PngPieces
+pub mod BoxHeaders
 pub mod JxlPieces
 pub mod Pieces
 pub mod Walks
 pub mod Promises
 pub mod KindTexts
+pub mod BoxExamples
 pub mod Examples

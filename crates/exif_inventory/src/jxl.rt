@@ -1,9 +1,10 @@
 //! The pieces of a JPEG XL file in its container (ISO/IEC 18181-2, clause 9).
 
 ghost use Rattle.std.specs.Prelude.{◌≡◌, ◌<◌, ◌≤◌, ◌+◌, length};
-ghost use Rattle.exif_inventory.specs.JxlPieces.{box_front, box_kind, box_piece, cut_box, cut_kind, exif_box, given_box, is_cut_box, is_cut_large, is_cut_size, is_jxl, kind_box, large_box, other_box, rest_of_jxl, sized_box, whole_box};
+ghost use Rattle.exif_inventory.specs.JxlPieces.{box_front, box_kind, box_piece, cut_box, cut_kind, exif_box, is_cut_box, is_jxl, kind_box, other_box, rest_of_jxl, whole_box};
 
-use crate::bytes::{bytes_at, is_named};
+use crate::boxes::{head_of, name_of};
+use crate::bytes::is_named;
 use crate::kind::Kind;
 use crate::piece::{Piece, State};
 
@@ -11,8 +12,6 @@ use crate::piece::{Piece, State};
 const SIGNATURE: [u8; 12] = [0, 0, 0, 12, b'J', b'X', b'L', b' ', 0x0d, 0x0a, 0x87, 0x0a];
 // The size and the type of a box.
 const HEADER_LEN: usize = 8;
-// Those of a box whose size has eight bytes.
-const LARGE_LEN: usize = 16;
 
 /// Whether bytes begin as a JPEG XL file in its container does.
 pub fn is_jxl(bytes: &[u8]) -> bool
@@ -64,7 +63,7 @@ fn cut_box(bytes: &[u8]) -> Piece
     ensures len { result.len ≡ length bytes.now }
     ensures framed { result.front + result.pad ≤ result.len }
 {
-    rest_of_jxl(cut_kind(box_kind(bytes_at(bytes, 4, 4))), bytes)
+    rest_of_jxl(cut_kind(box_kind(name_of(bytes))), bytes)
 }
 
 // A box of this kind and length, of which so many bytes come before its data.
@@ -135,59 +134,11 @@ fn whole_box(bytes: &[u8], header: usize, len: usize) -> Piece
     ensures len { result.len ≡ len }
     ensures framed { result.front + result.pad ≤ result.len }
 {
-    let name = bytes_at(bytes, 4, 4);
+    let name = name_of(bytes);
     if is_named(name, b"Exif") {
         exif_box(bytes, header, len)
     } else {
         other_box(name, header, len)
-    }
-}
-
-// A box of this size, or all bytes that are left where it is not whole.
-fn sized_box(bytes: &[u8], header: usize, size: u64) -> Piece
-    requires header { header ≤ 16 }
-    requires least { 8 ≤ header }
-    requires some { 8 ≤ length bytes.now }
-    ensures value { result ≡ sized_box bytes.now header size }
-    ensures some { 0 < result.len }
-    ensures within { result.len ≤ length bytes.now }
-    ensures framed { result.front + result.pad ≤ result.len }
-{
-    if size < header as u64 || (bytes.len() as u64) < size {
-        return cut_box(bytes);
-    }
-    whole_box(bytes, header, size as usize)
-}
-
-// A box whose size has eight bytes.
-fn large_box(bytes: &[u8]) -> Piece
-    requires { 8 ≤ length bytes.now }
-    ensures value { result ≡ large_box bytes.now }
-    ensures some { 0 < result.len }
-    ensures within { result.len ≤ length bytes.now }
-    ensures framed { result.front + result.pad ≤ result.len }
-{
-    if bytes.len() < LARGE_LEN {
-        return cut_box(bytes);
-    }
-    let size = u64::from_be_bytes([
-        bytes[8], bytes[9], bytes[10], bytes[11], bytes[12], bytes[13], bytes[14], bytes[15],
-    ]);
-    sized_box(bytes, LARGE_LEN, size)
-}
-
-// A box, by its first four bytes.
-fn given_box(bytes: &[u8], size: u32) -> Piece
-    requires { 8 ≤ length bytes.now }
-    ensures value { result ≡ given_box bytes.now size }
-    ensures some { 0 < result.len }
-    ensures within { result.len ≤ length bytes.now }
-    ensures framed { result.front + result.pad ≤ result.len }
-{
-    match size {
-        0 => whole_box(bytes, HEADER_LEN, bytes.len()),
-        1 => large_box(bytes),
-        _ => sized_box(bytes, HEADER_LEN, u64::from(size)),
     }
 }
 
@@ -203,29 +154,10 @@ pub fn box_piece(bytes: &[u8]) -> Piece
     if bytes.len() < HEADER_LEN {
         return rest_of_jxl(Kind::Broken, bytes);
     }
-    let size = u32::from_be_bytes([bytes[0], bytes[1], bytes[2], bytes[3]]);
-    given_box(bytes, size)
-}
-
-// Whether a box of this size, whose header has so many bytes, is not whole.
-fn is_cut_size(bytes: &[u8], header: u64, size: u64) -> bool
-    ensures { result ≡ is_cut_size bytes.now header size }
-{
-    size < header || (bytes.len() as u64) < size
-}
-
-// Whether a box whose size has eight bytes is not whole.
-fn is_cut_large(bytes: &[u8]) -> bool
-    requires { 8 ≤ length bytes.now }
-    ensures { result ≡ is_cut_large bytes.now }
-{
-    if bytes.len() < LARGE_LEN {
-        return true;
+    match head_of(bytes) {
+        Some(head) => whole_box(bytes, head.front, head.len),
+        None => cut_box(bytes),
     }
-    let size = u64::from_be_bytes([
-        bytes[8], bytes[9], bytes[10], bytes[11], bytes[12], bytes[13], bytes[14], bytes[15],
-    ]);
-    is_cut_size(bytes, LARGE_LEN as u64, size)
 }
 
 /// Whether the box at the front of bytes is cut off: they have no header of a box, or other bytes
@@ -233,13 +165,5 @@ fn is_cut_large(bytes: &[u8]) -> bool
 pub fn is_cut_box(bytes: &[u8]) -> bool
     ensures { result ≡ is_cut_box bytes.now }
 {
-    if bytes.len() < HEADER_LEN {
-        return true;
-    }
-    let size = u32::from_be_bytes([bytes[0], bytes[1], bytes[2], bytes[3]]);
-    match size {
-        0 => false,
-        1 => is_cut_large(bytes),
-        _ => is_cut_size(bytes, HEADER_LEN as u64, u64::from(size)),
-    }
+    head_of(bytes).is_none()
 }

@@ -4,9 +4,10 @@
 //! to its last. [`stream_piece`] is one step of its walk over a JPEG stream, [`chunk_piece`] over
 //! the chunks of a WebP file, [`frame_piece`] over those of an animation frame, [`png_piece`] over
 //! the chunks of a PNG file, whose checksum is [`crc_of`], and [`box_piece`] over the boxes of a
-//! JPEG XL file.
+//! JPEG XL file. [`boxes`] reads the headers of boxes.
 #![tactic(auto)]
 
+pub mod boxes;
 mod bytes;
 mod crc;
 mod jpeg;

@@ -3,7 +3,7 @@ use Rattle.std.specs.Prelude.{ℕ, ◌+◌, ◌-◌, List, [], ◌∷◌, ◌++�
 use Rattle.std.specs.List.{flat_map, list_any}
 use Rattle.exif_inventory.specs.declared.kind.Kind.{Kind}
 use Rattle.exif_inventory.specs.declared.kind.Kind.TheVariants as kind
-use Rattle.exif_inventory_heif.specs.Boxes.{number}
+use Rattle.exif_inventory_heif.specs.Numbers.{number}
 use Rattle.exif_inventory_heif.specs.declared.span.Layout.{Layout}
 use Rattle.exif_inventory_heif.specs.declared.extents.Extent.{Extent}
 use Rattle.exif_inventory_heif.specs.declared.role.Role.{Role}

@@ -3,7 +3,8 @@ use Rattle.std.specs.Prelude.{◌≡◌, refl, ℕ, List, [], ◌∷◌, ◌++�
 use Rattle.exif_inventory.specs.declared.kind.Kind.{Kind}
 use Rattle.exif_inventory.specs.declared.kind.Kind.TheVariants as kind
 use Rattle.exif_inventory.specs.declared.part.Part.{Part}
-use Rattle.exif_inventory_heif.specs.Boxes.{head_of, number}
+use Rattle.exif_inventory.specs.BoxHeaders.{box_header, head_of}
+use Rattle.exif_inventory_heif.specs.Numbers.{number}
 use Rattle.exif_inventory_heif.specs.Carving.{carve_one, carved, cut_one, exif_content, item_span}
 use Rattle.exif_inventory_heif.specs.Extents.{entries_in, entry_head, entry_step, extent_at, extents_of, is_known, wide_entries, widths_of}
 use Rattle.exif_inventory_heif.specs.Inventories.{heif_inventory, layout_of}
@@ -62,7 +63,7 @@ parts_of_three : heif_inventory three_items
     ∷ part kind.Picture 32 97 32 97 ∷ part kind.Picture 129 58 129 58
     ∷ part kind.Picture 187 11 187 11 ∷ part kind.Exif 198 6 202 2 ∷ part kind.Xmp 204 2 204 2
     ∷ part kind.Picture 206 1 206 1 ∷ [])
-unfolding layout_of walked top_piece child_piece head_of number items_of items_in repeated type_kind extents_of is_known widths_of wide_entries entries_in entry_step entry_head extent_at carved carve_one cut_one item_span exif_content
+unfolding layout_of walked top_piece child_piece head_of box_header number items_of items_in repeated type_kind extents_of is_known widths_of wide_entries entries_in entry_step entry_head extent_at carved carve_one cut_one item_span exif_content
 parts_of_three = refl
 
 -- two items that share their bytes, of which one is a picture: what holds them is not known
@@ -80,7 +81,7 @@ parts_of_shared : heif_inventory shared
     ≡ Some (part kind.Picture 0 20 0 20 ∷ part kind.Unknown 20 12 20 12
     ∷ part kind.Unknown 32 56 32 56 ∷ part kind.Unknown 88 44 88 44
     ∷ part kind.Unknown 132 16 132 16 ∷ [])
-unfolding layout_of walked top_piece child_piece head_of number items_of items_in repeated type_kind extents_of is_known widths_of wide_entries entries_in entry_step entry_head extent_at carved carve_one cut_one item_span exif_content
+unfolding layout_of walked top_piece child_piece head_of box_header number items_of items_in repeated type_kind extents_of is_known widths_of wide_entries entries_in entry_step entry_head extent_at carved carve_one cut_one item_span exif_content
 parts_of_shared = refl
 
 -- a file with no items: free space, some of it used, an XMP packet in a box of its own, and bytes
@@ -96,10 +97,10 @@ parts_of_none : heif_inventory no_items
     ≡ Some (part kind.Picture 0 20 0 20 ∷ part kind.Picture 20 9 20 9
     ∷ part kind.Unknown 29 9 37 1 ∷ part kind.Xmp 38 26 62 2 ∷ part kind.Unknown 64 9 64 9
     ∷ part kind.Broken 73 2 73 2 ∷ [])
-unfolding layout_of walked top_piece child_piece head_of number
+unfolding layout_of walked top_piece child_piece head_of box_header number
 parts_of_none = refl
 
 -- a file of another format
 of_none : heif_inventory (codes "II*\0") ≡ None
-unfolding head_of
+unfolding head_of box_header
 of_none = refl

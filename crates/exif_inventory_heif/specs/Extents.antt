@@ -3,7 +3,7 @@ use Rattle.std.specs.Prelude.{ℕ, ◌+◌, ◌/◌, ◌%◌, ◌^◌, max, List
 use Rattle.std.specs.Option.{option_map}
 use Rattle.exif_inventory.specs.declared.kind.Kind.{Kind}
 use Rattle.exif_inventory.specs.declared.kind.Kind.TheVariants as kind
-use Rattle.exif_inventory_heif.specs.Boxes.{number}
+use Rattle.exif_inventory_heif.specs.Numbers.{number}
 use Rattle.exif_inventory_heif.specs.Items.{kind_of}
 use Rattle.exif_inventory_heif.specs.Loops.{repeated}
 use Rattle.exif_inventory_heif.specs.declared.extents.EntryHead.{EntryHead}

@@ -2,14 +2,14 @@
 use Rattle.std.specs.Prelude.{ℕ, List, [], ◌∷◌, length, drop, map, codes, nat_lt, Bool, false, not, ◌&&◌, ◌||◌, Option, Some, None, if◌then◌else◌}
 use Rattle.std.specs.Str.{bytes_eq}
 use Rattle.exif_inventory.specs.declared.part.Part.{Part}
-use Rattle.exif_inventory_heif.specs.Boxes.{content_of, head_of, name_of}
+use Rattle.exif_inventory.specs.BoxHeaders.{content_of, head_of, name_of}
 use Rattle.exif_inventory_heif.specs.Carving.{carved}
 use Rattle.exif_inventory_heif.specs.Extents.{extents_of}
 use Rattle.exif_inventory_heif.specs.Items.{items_of}
 use Rattle.exif_inventory_heif.specs.Loops.{and_then}
 use Rattle.exif_inventory_heif.specs.Spans.{has, only, part_of, payload}
 use Rattle.exif_inventory_heif.specs.Walks.{spans_of}
-use Rattle.exif_inventory_heif.specs.declared.boxes.Head.{Head}
+use Rattle.exif_inventory.specs.declared.boxes.Head.{Head}
 use Rattle.exif_inventory_heif.specs.declared.extents.Extent.{Extent}
 use Rattle.exif_inventory_heif.specs.declared.extents.Room.{Room}
 use Rattle.exif_inventory_heif.specs.declared.items.Item.{Item}

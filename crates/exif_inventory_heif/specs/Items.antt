@@ -6,9 +6,10 @@ use Rattle.std.specs.Option.{option_map}
 use Rattle.std.specs.Str.{bytes_eq}
 use Rattle.exif_inventory.specs.declared.kind.Kind.{Kind}
 use Rattle.exif_inventory.specs.declared.kind.Kind.TheVariants as kind
-use Rattle.exif_inventory_heif.specs.Boxes.{content_of, head_of, name_of, number}
+use Rattle.exif_inventory.specs.BoxHeaders.{content_of, head_of, name_of}
+use Rattle.exif_inventory_heif.specs.Numbers.{number}
 use Rattle.exif_inventory_heif.specs.Loops.{and_then, repeated}
-use Rattle.exif_inventory_heif.specs.declared.boxes.Head.{Head}
+use Rattle.exif_inventory.specs.declared.boxes.Head.{Head}
 use Rattle.exif_inventory_heif.specs.declared.items.Item.{Item}
 use Rattle.exif_inventory_heif.specs.declared.items.ItemEntry.{ItemEntry}
 

@@ -1,4 +1,4 @@
-pub mod Boxes
+pub mod Numbers
 pub mod Roles
 pub mod Spans
 pub mod Pieces

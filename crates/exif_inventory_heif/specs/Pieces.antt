@@ -3,9 +3,9 @@
 use Rattle.std.specs.Prelude.{ℕ, suc, zero, ◌+◌, ◌-◌, min, List, length, take, codes, nat_lt, Bool, false, Option, Some, None, if◌then◌else◌}
 use Rattle.std.specs.Str.{bytes_eq}
 use Rattle.exif_inventory.specs.declared.kind.Kind.TheVariants as kind
-use Rattle.exif_inventory_heif.specs.Boxes.{content_of, head_of, name_of}
+use Rattle.exif_inventory.specs.BoxHeaders.{content_of, head_of, name_of}
 use Rattle.exif_inventory_heif.specs.Roles.{child_role, top_role}
-use Rattle.exif_inventory_heif.specs.declared.boxes.Head.{Head}
+use Rattle.exif_inventory.specs.declared.boxes.Head.{Head}
 use Rattle.exif_inventory_heif.specs.declared.piece.Piece.{Piece}
 use Rattle.exif_inventory_heif.specs.declared.piece.State.{State}
 use Rattle.exif_inventory_heif.specs.declared.piece.State.TheVariants.{Before, Inside}

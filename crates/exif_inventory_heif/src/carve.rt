@@ -4,8 +4,8 @@ ghost use Rattle.std.specs.Prelude.{◌≡◌, ◌≤◌, ◌++◌, not, count_b
 ghost use Rattle.std.specs.List.{flat_map};
 ghost use Rattle.exif_inventory_heif.specs.Carving.{are_many, before, behind, carve_each, carve_one, carved, layout_view, cut, cut_one, exif_content, exif_span, holds, is_alone, is_held, is_picture, item_span, known_span, may_hold, meets, some_span};
 
-use crate::boxes::number;
 use crate::extents::Extent;
+use crate::numbers::number;
 use crate::role::Role;
 use crate::span::{Layout, Span};
 use exif_inventory::Kind;

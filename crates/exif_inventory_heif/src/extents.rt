@@ -5,8 +5,8 @@ ghost use Rattle.std.specs.Option.{option_map};
 ghost use Rattle.exif_inventory_heif.specs.Extents.{are_widths, counted_entries, end_of, entries_in, entry_head, entry_step, extent_at, extent_len, extent_step, extents_of, head_len, is_known, is_width, item_kind, method_of, read_view, source_of, wide_entries, widths_of};
 ghost use Rattle.exif_inventory_heif.specs.Loops.{repeated};
 
-use crate::boxes::number;
 use crate::items::{ITEM_LIMIT, Item, kind_of};
+use crate::numbers::number;
 use crate::span::Span;
 use exif_inventory::Kind;
 use std::alloc::{AllocError, Global};

@@ -3,10 +3,10 @@
 //! [`inventory`] lists the parts of a file in order, from its first byte to its last.
 #![tactic(auto)]
 
-mod boxes;
 mod carve;
 mod extents;
 mod items;
+mod numbers;
 mod parts;
 mod piece;
 mod role;

@@ -9,7 +9,6 @@ ghost use Rattle.exif_inventory_heif.specs.Inventories.{any_brand, extents_in, e
 ghost use Rattle.exif_inventory_heif.specs.Promises.{PictureIsApart};
 ghost use Rattle.exif_inventory_heif.specs.Walks.{AreSpans, IsInside};
 
-use crate::boxes::{content_of, head_of, name_of};
 use crate::carve::carved;
 use crate::extents::{Extent, Room, extents_of};
 use crate::items::{Item, items_of};
@@ -17,6 +16,7 @@ use crate::role::Role;
 use crate::span::{Layout, Span, has, only, part_of, payload};
 use crate::walk::spans_of;
 use exif_inventory::Part;
+use exif_inventory::boxes::{content_of, head_of, name_of};
 use std::alloc::{AllocError, Global};
 
 // Whether a brand is one of HEIF.

@@ -3,9 +3,9 @@
 ghost use Rattle.std.specs.Prelude.{◌≡◌, ◌<◌, ◌≤◌, ◌+◌, length};
 ghost use Rattle.exif_inventory_heif.specs.Pieces.{box_piece, child_piece, content_front, is_meta, meta_piece, piece_at, rest_piece, top_piece};
 
-use crate::boxes::{Head, content_of, head_of, name_of};
 use crate::role::{Role, child_role, top_role};
 use exif_inventory::Kind;
+use exif_inventory::boxes::{Head, content_of, head_of, name_of};
 
 /// What the bytes that come next belong to.
 #[derive(Clone, Copy)]

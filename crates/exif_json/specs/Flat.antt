@@ -5,6 +5,7 @@ use Rattle.std.specs.Str.{is_utf8}
 use Rattle.json.specs.Json as J
 use Rattle.json.specs.Json.{Json}
 use Rattle.json.specs.Word.{after_number}
+use Rattle.exif_containers.specs.declared.container.Format.TheVariants as known
 use Rattle.exif_formats.specs.declared.format.PictureFormat.{PictureFormat}
 use Rattle.exif_formats.specs.declared.format.PictureFormat.TheVariants as format
 use Rattle.exif_summary.specs.Columns.{Shown, cell_of, columns, name_of}
@@ -19,10 +20,10 @@ use Rattle.exif_json.specs.declared.flat.FileFacts.{FileFacts}
 
 -- the media type of a format (RFC 6838)
 abbrev pub mime_type : PictureFormat → List ℕ
-mime_type format.Tiff = codes "image/tiff"
-mime_type format.Jpeg = codes "image/jpeg"
-mime_type format.Heif = codes "image/heif"
-mime_type format.WebP = codes "image/webp"
+mime_type (format.Container known.Tiff) = codes "image/tiff"
+mime_type (format.Container known.Jpeg) = codes "image/jpeg"
+mime_type (format.Container known.Heif) = codes "image/heif"
+mime_type (format.Container known.WebP) = codes "image/webp"
 mime_type format.Png = codes "image/png"
 mime_type format.JpegXl = codes "image/jxl"
 mime_type format.Raf = codes "image/x-fuji-raf"

@@ -16,7 +16,7 @@ ghost use Rattle.exif_json.specs.Trees.{parts_tokens, unsigned};
 use crate::printer::Printer;
 use crate::texts::set_latin1;
 use exif::Exif;
-use exif_formats::PictureFormat;
+use exif_formats::{Format, PictureFormat};
 use exif_summary::{COLUMNS, Cell, Column, find_cell};
 use json::{Writer, is_number};
 use std::alloc::{AllocError, Global};
@@ -40,10 +40,10 @@ pub fn mime_type(format: PictureFormat) -> &'static str
     ensures { result.now ≡ mime_type format }
 {
     match format {
-        PictureFormat::Tiff => "image/tiff",
-        PictureFormat::Jpeg => "image/jpeg",
-        PictureFormat::Heif => "image/heif",
-        PictureFormat::WebP => "image/webp",
+        PictureFormat::Container(Format::Tiff) => "image/tiff",
+        PictureFormat::Container(Format::Jpeg) => "image/jpeg",
+        PictureFormat::Container(Format::Heif) => "image/heif",
+        PictureFormat::Container(Format::WebP) => "image/webp",
         PictureFormat::Png => "image/png",
         PictureFormat::JpegXl => "image/jxl",
         PictureFormat::Raf => "image/x-fuji-raf",

@@ -1,13 +1,17 @@
 -- A box of a JPEG XL file that is read again, whatever follows it.
-use Rattle.std.proofs.Common.{◌≡◌, ◌⊎◌, inl, inr, ◌<◌, ◌≤◌, ◌+◌, ℕ, Bool, true, false, cond, eqb, ltb, ◌||◌, List, ◌++◌, length, take, drop, codes, refl, ap, sym, ◌∙◌, arith, length-append}
+use Rattle.std.proofs.Common.{◌≡◌, ◌⊎◌, inl, inr, ◌<◌, ◌≤◌, ◌+◌, ℕ, Bool, true, false, cond, eqb, ltb, ◌||◌, List, ◌++◌, length, take, drop, codes, Option, None, Some, refl, ap, sym, ◌∙◌, arith, length-append}
 use Rattle.std.specs.Int.{from_be_bytes, w32, w64}
+use Rattle.std.specs.Option.{is_none}
 use Rattle.std.specs.Str.{bytes_eq}
 use Rattle.std.proofs.lemmas.Bool.{le-ltb}
 use Rattle.std.proofs.lemmas.Bool.Decides.{nat_tests}
 use Rattle.std.proofs.lemmas.List.{drop-take, length-take-le, take-append-drop, take-append-le, take_at}
-use Rattle.exif_inventory.specs.JxlPieces.{box_piece, cut_box, exif_box, given_box, is_cut_box, kind_box, large_box, other_box, rest_of_jxl, sized_box, whole_box}
+use Rattle.exif_inventory.specs.BoxHeaders.{checked, head_of}
+use Rattle.exif_inventory.specs.JxlPieces.{box_piece, exif_box, headed_box, is_cut_box, kind_box, other_box, rest_of_jxl, whole_box}
+use Rattle.exif_inventory.specs.declared.boxes.Head.{Head}
 use Rattle.exif_inventory.specs.declared.kind.Kind.TheVariants as kind
 use Rattle.exif_inventory.specs.declared.piece.Piece.{Piece}
+use Rattle.exif_inventory.proofs.BoxHeads.{first_size, head_is, large_size, sized_head}
 use Rattle.exif_parts.specs.Jxl.{is_last}
 
 -- ---- bytes that begin alike
@@ -69,50 +73,45 @@ pub record Boxed (zs : List ℕ) (header size : ℕ) : Type 0 where
   pub whole : is_cut_box zs ≡ false
   pub last : is_last zs ≡ false
 
--- the box at the front, by its first four bytes
-given : (zs : List ℕ) → 8 ≤ length zs → box_piece zs ≡ given_box zs (from_be_bytes w32 (take 4 zs))
+-- the box at the front, by its header
+given : (zs : List ℕ) → 8 ≤ length zs → box_piece zs ≡ headed_box zs (head_of zs)
 unfolding box_piece
-given zs h = ap (λ t. cond t (rest_of_jxl kind.Broken zs) (given_box zs (from_be_bytes w32 (take 4 zs)))) (le-ltb (length zs) 8 h)
+given zs h = ap (λ t. cond t (rest_of_jxl kind.Broken zs) (headed_box zs (head_of zs))) (le-ltb (length zs) 8 h)
 
-sized : (zs : List ℕ) (header size : ℕ) → header ≤ size → size ≤ length zs → (ltb size header || ltb (length zs) size) ≡ false
-sized zs header size h w = ap (λ t. t || ltb (length zs) size) (le-ltb size header h) ∙ le-ltb (length zs) size w
+by_head : (zs : List ℕ) (header size : ℕ) → 8 ≤ length zs → head_of zs ≡ Some (record { front = header; len = size }) → is_last zs ≡ false → Boxed zs header size
+by_head zs header size h e last = record {
+  piece = given zs h ∙ ap (λ (o : Option Head). headed_box zs o) e;
+  whole = ap (λ (o : Option Head). is_none o) e;
+  last = last;
+}
 
--- whether it is cut off, by tests on its first four bytes
-cut_by : List ℕ → Bool → Bool → Bool → Bool → Bool → Bool → Bool
-cut_by zs a b c d e f = cond a true (cond b false (cond c (cond d true e) f))
+-- its header, by its first four bytes
+headed : (zs : List ℕ) (n : ℕ) → 8 ≤ length zs → first_size zs ≡ n → head_of zs ≡ sized_head n zs
+headed zs n h is =
+    head_is zs ∙ ap (λ t. cond {A = Option Head} t None (sized_head (first_size zs) zs)) (le-ltb (length zs) 8 h) ∙ ap (λ k. sized_head k zs) is
+
+fitting : (header size all : ℕ) → header ≤ size → size ≤ all → checked header size all ≡ Some (record { front = header; len = size })
+fitting header size all h w =
+    ap (λ t. cond {A = Option Head} t None (Some (record { front = header; len = size })))
+    (ap (λ t. t || ltb all size) (le-ltb size header h) ∙ le-ltb all size w)
 
 pub plain : (zs : List ℕ) (n : ℕ) → from_be_bytes w32 (take 4 zs) ≡ n → eqb n 0 ≡ false → eqb n 1 ≡ false → 8 ≤ n → n ≤ length zs → Boxed zs 8 n
 plain zs n is zero_not one_not least most =
-    let eight : 8 ≤ length zs = omega arith in
-    let s = sized zs 8 n least most in record {
-      piece = given zs eight ∙ ap (λ k. given_box zs k) is
-          ∙ ap (λ t. cond t (whole_box zs 8 (length zs)) (cond (eqb n 1) (large_box zs) (sized_box zs 8 n))) zero_not
-          ∙ ap (λ t. cond t (large_box zs) (sized_box zs 8 n)) one_not
-          ∙ ap (λ t. cond t (cut_box zs) (whole_box zs 8 n)) s;
-      whole = ap (λ t. cond t true (cond (eqb (from_be_bytes w32 (take 4 zs)) 0) false (cond (eqb (from_be_bytes w32 (take 4 zs)) 1) (cond (ltb (length zs) 16) true (ltb (from_be_bytes w64 (take 8 (drop 8 zs))) 16 || ltb (length zs) (from_be_bytes w64 (take 8 (drop 8 zs))))) (ltb (from_be_bytes w32 (take 4 zs)) 8 || ltb (length zs) (from_be_bytes w32 (take 4 zs)))))) (le-ltb (length zs) 8 eight)
-          ∙ ap (λ k. cond (eqb k 0) false (cond (eqb k 1) (cond (ltb (length zs) 16) true (ltb (from_be_bytes w64 (take 8 (drop 8 zs))) 16 || ltb (length zs) (from_be_bytes w64 (take 8 (drop 8 zs))))) (ltb k 8 || ltb (length zs) k))) is
-          ∙ ap (λ t. cond t false (cond (eqb n 1) (cond (ltb (length zs) 16) true (ltb (from_be_bytes w64 (take 8 (drop 8 zs))) 16 || ltb (length zs) (from_be_bytes w64 (take 8 (drop 8 zs))))) (ltb n 8 || ltb (length zs) n))) zero_not
-          ∙ ap (λ t. cond t (cond (ltb (length zs) 16) true (ltb (from_be_bytes w64 (take 8 (drop 8 zs))) 16 || ltb (length zs) (from_be_bytes w64 (take 8 (drop 8 zs))))) (ltb n 8 || ltb (length zs) n)) one_not
-          ∙ s;
-      last = ap (λ k. eqb k 0) is ∙ zero_not;
-    }
+    let all = length zs in
+    let one : Option Head = cond (ltb all 16) None (checked 16 (large_size zs) all) in
+    by_head zs 8 n (omega arith)
+    (headed zs n (omega arith) is ∙ ap (λ t. cond t (checked 8 all all) (cond (eqb n 1) one (checked 8 n all))) zero_not
+    ∙ ap (λ t. cond t one (checked 8 n all)) one_not ∙ fitting 8 n all least most)
+    (ap (λ k. eqb k 0) is ∙ zero_not)
 
 large : (zs : List ℕ) (m : ℕ) → from_be_bytes w32 (take 4 zs) ≡ 1 → from_be_bytes w64 (take 8 (drop 8 zs)) ≡ m → 16 ≤ m → m ≤ length zs → Boxed zs 16 m
 large zs m is is' least most =
-    let eight : 8 ≤ length zs = omega arith in
+    let all = length zs in
     let sixteen : 16 ≤ length zs = omega arith in
-    let s = sized zs 16 m least most in record {
-      piece = given zs eight ∙ ap (λ k. given_box zs k) is
-          ∙ ap (λ t. cond t (cut_box zs) (sized_box zs 16 (from_be_bytes w64 (take 8 (drop 8 zs))))) (le-ltb (length zs) 16 sixteen)
-          ∙ ap (λ k. sized_box zs 16 k) is'
-          ∙ ap (λ t. cond t (cut_box zs) (whole_box zs 16 m)) s;
-      whole = ap (λ t. cond t true (cond (eqb (from_be_bytes w32 (take 4 zs)) 0) false (cond (eqb (from_be_bytes w32 (take 4 zs)) 1) (cond (ltb (length zs) 16) true (ltb (from_be_bytes w64 (take 8 (drop 8 zs))) 16 || ltb (length zs) (from_be_bytes w64 (take 8 (drop 8 zs))))) (ltb (from_be_bytes w32 (take 4 zs)) 8 || ltb (length zs) (from_be_bytes w32 (take 4 zs)))))) (le-ltb (length zs) 8 eight)
-          ∙ ap (λ k. cond (eqb k 0) false (cond (eqb k 1) (cond (ltb (length zs) 16) true (ltb (from_be_bytes w64 (take 8 (drop 8 zs))) 16 || ltb (length zs) (from_be_bytes w64 (take 8 (drop 8 zs))))) (ltb k 8 || ltb (length zs) k))) is
-          ∙ ap (λ t. cond t true (ltb (from_be_bytes w64 (take 8 (drop 8 zs))) 16 || ltb (length zs) (from_be_bytes w64 (take 8 (drop 8 zs))))) (le-ltb (length zs) 16 sixteen)
-          ∙ ap (λ k. ltb k 16 || ltb (length zs) k) is'
-          ∙ s;
-      last = ap (λ k. eqb k 0) is;
-    }
+    by_head zs 16 m (omega arith)
+    (headed zs 1 (omega arith) is ∙ ap (λ t. cond {A = Option Head} t None (checked 16 (large_size zs) all)) (le-ltb all 16 sixteen)
+    ∙ ap (λ k. checked 16 k all) is' ∙ fitting 16 m all least most)
+    (ap (λ k. eqb k 0) is)
 
 -- ---- a whole box that says its size
 
@@ -132,7 +131,8 @@ pub record Found (xs : List ℕ) : Type 0 where
   pub boxed : (zs : List ℕ) → size ≤ length zs → take size zs ≡ take size xs → Boxed zs header size
 
 pub found : (xs : List ℕ) → is_cut_box xs ≡ false → is_last xs ≡ false → Found xs
-found xs whole last = by (ltb (length xs) 8) (eqb n 0) (eqb n 1) (ltb (length xs) 16) refl refl refl refl whole last
+found xs whole last =
+    by (ltb (length xs) 8) (eqb n 0) (eqb n 1) (ltb (length xs) 16) refl refl refl refl (ap (λ (o : Option Head). is_none o) (sym (head_is xs)) ∙ whole) last
   where
     n : ℕ
     n = from_be_bytes w32 (take 4 xs)
@@ -148,14 +148,20 @@ found xs whole last = by (ltb (length xs) 8) (eqb n 0) (eqb n 1) (ltb (length xs
     second true b e = absurd (cc)
     second false b e = e
 
+    fits : (t : Bool) (head : Head) → is_none (cond {A = Option Head} t None (Some head)) ≡ false → t ≡ false
+    fits true head e = absurd (cc)
+    fits false head e = refl
+
     by : (a b c d : Bool) → ltb (length xs) 8 ≡ a → eqb n 0 ≡ b → eqb n 1 ≡ c → ltb (length xs) 16 ≡ d
-        → cond a true (cond b false (cond c (cond d true (ltb m 16 || ltb (length xs) m)) (ltb n 8 || ltb (length xs) n))) ≡ false → b ≡ false → Found xs
+        → is_none (cond {A = Option Head} a None (cond b (checked 8 (length xs) (length xs)) (cond c (cond d None (checked 16 m (length xs))) (checked 8 n (length xs))))) ≡ false
+        → b ≡ false → Found xs
     by true b c d ea eb ec ed w l = absurd (cc)
     by false true c d ea eb ec ed w l = absurd (cc)
     by false false true true ea eb ec ed w l = absurd (cc)
     by false false true false ea eb ec ed w l =
-        let low = first (ltb m 16) (ltb (length xs) m) w in
-        let high = second (ltb m 16) (ltb (length xs) m) w in
+        let whole = fits (ltb m 16 || ltb (length xs) m) (record { front = 16; len = m }) w in
+        let low = first (ltb m 16) (ltb (length xs) m) whole in
+        let high = second (ltb m 16) (ltb (length xs) m) whole in
         let least : 16 ≤ m = grind (arith, nat_tests) in
         let most : m ≤ length xs = grind (arith, nat_tests) in
         let one : n ≡ 1 = grind (arith, nat_tests) in record {
@@ -170,8 +176,9 @@ found xs whole last = by (ltb (length xs) 8) (eqb n 0) (eqb n 1) (ltb (length xs
               (ap (λ (l : List ℕ). from_be_bytes w64 l) (same_part 8 8 m xs zs (omega arith) most hz e)) least hz;
         }
     by false false false d ea eb ec ed w l =
-        let low = first (ltb n 8) (ltb (length xs) n) w in
-        let high = second (ltb n 8) (ltb (length xs) n) w in
+        let whole = fits (ltb n 8 || ltb (length xs) n) (record { front = 8; len = n }) w in
+        let low = first (ltb n 8) (ltb (length xs) n) whole in
+        let high = second (ltb n 8) (ltb (length xs) n) whole in
         let least : 8 ≤ n = grind (arith, nat_tests) in
         let most : n ≤ length xs = grind (arith, nat_tests) in record {
           header = 8;
@@ -213,12 +220,20 @@ read_again xs ys whole last =
       last = ap (λ (l : List ℕ). is_last l) is ∙ new.last;
     }
 
+-- a header of a whole box, by tests
+abbrev head_by : ℕ → ℕ → ℕ → Bool → Bool → Bool → Bool → Bool → Bool → Bool → Option Head
+head_by all n m a b d g p q r =
+    cond a None (cond b (cond r None (Some (record { front = 8; len = all })))
+    (cond d (cond g None (cond p None (Some (record { front = 16; len = m })))) (cond q None (Some (record { front = 8; len = n })))))
+
 -- one that is cut off, or goes to the end of the file, has all bytes
 pub box_is_all : (xs : List ℕ) (c t : Bool) → is_cut_box xs ≡ c → is_last xs ≡ t → (c || t) ≡ true → (box_piece xs).len ≡ length xs
 unfolding box_piece
 box_is_all xs c t e f h =
-    by (ltb (length xs) 8) (eqb n 0) (eqb n 1) (ltb (length xs) 16) (ltb m 16 || ltb (length xs) m) (ltb n 8 || ltb (length xs) n)
-    (ap (λ x. x || is_last xs) e ∙ ap (λ x. c || x) f ∙ h)
+    ap (λ (o : Option Head). (cond (ltb (length xs) 8) (rest_of_jxl kind.Broken xs) (headed_box xs o)).len) (head_is xs)
+    ∙ by (ltb (length xs) 8) (eqb n 0) (eqb n 1) (ltb (length xs) 16) (ltb m 16 || ltb (length xs) m) (ltb n 8 || ltb (length xs) n)
+    (ltb (length xs) 8 || ltb (length xs) (length xs))
+    (ap (λ (o : Option Head). is_none o || eqb n 0) (sym (head_is xs)) ∙ ap (λ x. x || is_last xs) e ∙ ap (λ x. c || x) f ∙ h)
   where
     n : ℕ
     n = from_be_bytes w32 (take 4 xs)
@@ -226,12 +241,13 @@ box_is_all xs c t e f h =
     m : ℕ
     m = from_be_bytes w64 (take 8 (drop 8 xs))
 
-    by : (a b d g p q : Bool) → (cond a true (cond b false (cond d (cond g true p) q)) || b) ≡ true
-        → (cond a (rest_of_jxl kind.Broken xs) (cond b (whole_box xs 8 (length xs)) (cond d (cond g (cut_box xs) (cond p (cut_box xs) (whole_box xs 16 m))) (cond q (cut_box xs) (whole_box xs 8 n))))).len ≡ length xs
-    by true b d g p q h = refl
-    by false true d g p q h = whole_len xs 8 (length xs)
-    by false false true true p q h = refl
-    by false false true false true q h = refl
-    by false false true false false q h = absurd (cc)
-    by false false false g p true h = refl
-    by false false false g p false h = absurd (cc)
+    by : (a b d g p q r : Bool) → (is_none (head_by (length xs) n m a b d g p q r) || b) ≡ true
+        → (cond a (rest_of_jxl kind.Broken xs) (headed_box xs (head_by (length xs) n m a b d g p q r))).len ≡ length xs
+    by true b d g p q r h = refl
+    by false true d g p q true h = refl
+    by false true d g p q false h = whole_len xs 8 (length xs)
+    by false false true true p q r h = refl
+    by false false true false true q r h = refl
+    by false false true false false q r h = absurd (cc)
+    by false false false g p true r h = refl
+    by false false false g p false r h = absurd (cc)

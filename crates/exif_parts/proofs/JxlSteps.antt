@@ -1,9 +1,10 @@
 -- One box more of a JPEG XL file that is filtered.
-use Rattle.std.proofs.Common.{◌≡◌, ◌<◌, ◌≤◌, ◌-◌, ℕ, zero, suc, Bool, true, false, cond, List, [], ◌∷◌, ◌++◌, length, drop, refl, ap, sym, ◌∙◌, arith, length-drop}
-use Rattle.exif_inventory.specs.JxlPieces.{box_piece, is_cut_box}
+use Rattle.std.proofs.Common.{◌≡◌, ◌<◌, ◌≤◌, ◌-◌, ℕ, zero, suc, Bool, true, false, cond, ltb, List, [], ◌∷◌, ◌++◌, length, drop, Ok, Err, refl, ap, sym, ◌∙◌, arith, length-drop}
+use Rattle.exif_types.specs.Refusals.{◌>>=◌}
+use Rattle.exif_inventory.specs.JxlPieces.{box_piece, is_cut_box, is_jxl}
 use Rattle.exif_inventory.specs.declared.piece.Piece.{Piece}
 use Rattle.exif_segments.specs.declared.remove.Remove.{Remove}
-use Rattle.exif_parts.specs.Jxl.{boxes_filtered, kept_box}
+use Rattle.exif_parts.specs.Jxl.{boxes_filtered, broken_jxl, contained, if_contained, is_codestream, kept_box, no_container, not_jxl, with_box}
 use Rattle.exif_parts.specs.Written.{Written}
 use Rattle.exif_parts.specs.declared.rewritten.Ended.TheVariants.{Whole, Cut}
 
@@ -83,3 +84,15 @@ runs_on remove answer bytes out piece rest out' r some p long o c d =
       enough = omega arith;
       same = ap (λ (l : List ℕ). boxes_filtered b.n remove l out') d ∙ sym on;
     }
+
+-- a file that is one in its container is written again
+pub contained_then : (remove : Remove) (file new : List ℕ) → (contained file >>= λ (f : List ℕ). Ok (with_box remove f new)) ≡ if_contained remove file new
+contained_then remove file new = by (is_codestream file) (ltb (length file) 12) (is_jxl file)
+  where
+    by : (a b c : Bool)
+        → ((cond a (Err no_container) (cond b (Err broken_jxl) (cond c (Ok file) (Err not_jxl)))) >>= λ (f : List ℕ). Ok (with_box remove f new))
+        ≡ cond a (Err no_container) (cond b (Err broken_jxl) (cond c (Ok (with_box remove file new)) (Err not_jxl)))
+    by true b c = refl
+    by false true c = refl
+    by false false true = refl
+    by false false false = refl

@@ -102,6 +102,13 @@ with_box remove file new =
     boxes_filtered (length (drop (front_len file) file)) remove (drop (front_len file) file)
     (take (front_len file) file ++ new)
 
+-- a file, if it is one in its container
+abbrev pub contained : List ℕ → Result (List ℕ) Refusal
+contained file =
+    if is_codestream file then Err no_container else
+    if nat_lt (length file) 12 then Err broken_jxl else
+    if is_jxl file then Ok file else Err not_jxl
+
 -- the same, if it is a file in its container
 abbrev pub if_contained : Remove → List ℕ → List ℕ → Result Written Refusal
 if_contained remove file new =

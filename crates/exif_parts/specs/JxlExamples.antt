@@ -1,5 +1,6 @@
 -- Small JPEG XL files written again, worked by hand (ISO/IEC 18181-2, clause 9).
 use Rattle.std.specs.Prelude.{◌≡◌, ℕ, List, refl, [], ◌∷◌, ◌++◌, codes, None, Some, Ok, Err}
+use Rattle.exif_inventory.specs.BoxHeaders.{box_header, head_of}
 use Rattle.exif_inventory.specs.JxlPieces.{box_piece}
 use Rattle.exif_segments.specs.declared.remove.Remove.TheVariants.{Exif, Metadata}
 use Rattle.exif_parts.specs.Jxl.{boxes_filtered, broken_jxl, jxl_rewritten, no_container, not_jxl}
@@ -19,7 +20,7 @@ placed : jxl_rewritten Exif (Some (codes "ab"))
       bytes = typed ++ codes "\0\0\0\u{e}Exif\0\0\0\0ab\0\0\0\njxlcim\0\0\0\txml s";
       ended = Whole;
     })
-unfolding boxes_filtered box_piece
+unfolding boxes_filtered box_piece head_of box_header
 placed = refl
 
 -- where no box has the file's type, new data are behind the first box; a codestream that goes to the
@@ -29,7 +30,7 @@ untyped : jxl_rewritten Exif (Some (codes "ab")) (signature ++ codes "\0\0\0\0jx
       bytes = signature ++ codes "\0\0\0\u{e}Exif\0\0\0\0ab\0\0\0\0jxlcimage";
       ended = Whole;
     })
-unfolding boxes_filtered box_piece
+unfolding boxes_filtered box_piece head_of box_header
 untyped = refl
 
 -- and before a box of that type which goes to the end of the file
@@ -38,7 +39,7 @@ last_type : jxl_rewritten Exif (Some (codes "ab")) (signature ++ codes "\0\0\0\0
       bytes = signature ++ codes "\0\0\0\u{e}Exif\0\0\0\0ab\0\0\0\0ftypjxl ";
       ended = Whole;
     })
-unfolding boxes_filtered box_piece
+unfolding boxes_filtered box_piece head_of box_header
 last_type = refl
 
 -- all metadata go: Exif data whose box goes to the end of the file, too, compressed boxes, XMP, what
@@ -46,7 +47,7 @@ last_type = refl
 bare : jxl_rewritten Metadata None
     (typed ++ codes "\0\0\0\njbrdxx\0\0\0\rbrobxml s\0\0\0\txml s\0\0\0\tjxlls\0\0\0\njxlcim\0\0\0\twhats\0\0\0\0Exif\0\0\0\0ab")
     ≡ Ok (record { bytes = typed ++ codes "\0\0\0\tjxlls\0\0\0\njxlcim"; ended = Whole })
-unfolding boxes_filtered box_piece
+unfolding boxes_filtered box_piece head_of box_header
 bare = refl
 
 -- without its Exif data a file keeps what rebuilds a JPEG file, and boxes that are compressed; but
@@ -59,7 +60,7 @@ unknown_boxes : jxl_rewritten Exif None
       bytes = typed ++ codes "\0\0\0\njbrdxx\0\0\0\rbrobxml s\0\0\0\njxlcim";
       ended = Whole;
     })
-unfolding boxes_filtered box_piece
+unfolding boxes_filtered box_piece head_of box_header
 unknown_boxes = refl
 
 -- a size of eight bytes
@@ -69,7 +70,7 @@ large : jxl_rewritten Exif None
       bytes = typed ++ codes "\0\0\0\u{1}jxlc\0\0\0\0\0\0\0\u{12}im";
       ended = Whole;
     })
-unfolding boxes_filtered box_piece
+unfolding boxes_filtered box_piece head_of box_header
 large = refl
 
 -- a picture that is cut off stays as far as it goes; other boxes that are cut off do not
@@ -78,17 +79,17 @@ cut_picture : jxl_rewritten Exif (Some (codes "ab")) (typed ++ codes "\0\0\0\u{b
       bytes = typed ++ codes "\0\0\0\u{e}Exif\0\0\0\0ab\0\0\0\u{b}jxlcim";
       ended = Cut;
     })
-unfolding boxes_filtered box_piece
+unfolding boxes_filtered box_piece head_of box_header
 cut_picture = refl
 
 cut_packet : jxl_rewritten Exif None (typed ++ codes "\0\0\0\njxlcim\0\0\0\nxml s")
     ≡ Ok (record { bytes = typed ++ codes "\0\0\0\njxlcim"; ended = Cut })
-unfolding boxes_filtered box_piece
+unfolding boxes_filtered box_piece head_of box_header
 cut_packet = refl
 
 cut_header : jxl_rewritten Exif None (typed ++ codes "\0\0\0\njxlcim\0\0\0")
     ≡ Ok (record { bytes = typed ++ codes "\0\0\0\njxlcim"; ended = Cut })
-unfolding boxes_filtered box_piece
+unfolding boxes_filtered box_piece head_of box_header
 cut_header = refl
 
 -- a codestream alone, a file that is shorter than its first box, and one of another format

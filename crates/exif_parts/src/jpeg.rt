@@ -28,8 +28,8 @@ fn resources_len(state: State) -> usize
     }
 }
 
-// How many bytes a piece has with all resources that it begins.
-fn full_len(piece: Piece, stream: &[u8]) -> usize
+/// How many bytes a piece has with all resources that it begins.
+pub fn full_len(piece: Piece, stream: &[u8]) -> usize
     requires { piece.len + resources_len piece.next ≤ length stream.now }
     ensures { result ≡ piece.len + resources_len piece.next }
 {
@@ -73,15 +73,15 @@ fn segment_of(alloc: Global, put: Option<&[u8]>) -> Result<Vec<u8>, Error>
     Ok(exif_segment(alloc, payload)?)
 }
 
-// The new segment at its insertion point, and else no bytes.
-fn inserted(here: bool, new: &[u8]) -> &[u8]
+/// New bytes at their insertion point, and else none.
+pub fn inserted(here: bool, new: &[u8]) -> &[u8]
     ensures { result.now ≡ inserted here new.now }
 {
     if here { new } else { &[] }
 }
 
-// What is left to be inserted behind a piece.
-fn pending(here: bool, new: &[u8]) -> &[u8]
+/// What is left to be inserted behind a piece.
+pub fn pending(here: bool, new: &[u8]) -> &[u8]
     ensures { result.now ≡ pending here new.now }
 {
     if here { &[] } else { new }

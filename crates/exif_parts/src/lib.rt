@@ -8,6 +8,7 @@
 //! inventory lists and what is written agree.
 #![tactic(auto)]
 
+pub mod insertion;
 mod jpeg;
 mod jxl;
 mod kept;
@@ -19,6 +20,7 @@ mod webp;
 
 pub use jpeg::rewrite_jpeg;
 pub use jxl::rewrite_jxl;
+pub use marker::split;
 pub use png::{png_chunk, rewrite_png};
 pub use rewritten::{Ended, Rewritten};
 pub use webp::rewrite_webp;

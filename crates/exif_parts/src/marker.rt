@@ -17,6 +17,7 @@ const APP0: u8 = 0xe0;
 /// The first bytes of a list, as many as there are up to `len`, and the rest.
 pub fn split(len: usize, bytes: &[u8]) -> (&[u8], &[u8])
     ensures first { result.0.now ≡ take len bytes.now }
+    ensures most { length result.0.now ≤ len }
     ensures rest { result.1.now ≡ drop len bytes.now }
     ensures left { length result.1.now ≡ length bytes.now - len }
 {

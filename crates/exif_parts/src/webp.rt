@@ -9,7 +9,7 @@ ghost use Rattle.exif_parts.specs.WebpChunks.{body_space};
 ghost use Rattle.exif_parts.specs.WebpViews.{kept_view};
 
 mod canvas;
-mod chunk;
+pub mod chunk;
 mod frame;
 mod staying;
 
@@ -33,8 +33,8 @@ struct Kept<'a> {
     rest: &'a [u8],
 }
 
-// The space of a file behind its header.
-fn body_space(file: &[u8]) -> Result<u64, Error>
+/// The space of a file behind its header.
+pub fn body_space(file: &[u8]) -> Result<u64, Error>
     ensures { Answers (λ space. space) result (body_space file.now) }
 {
     if file.len() < 12 {

@@ -1,19 +1,18 @@
--- What becomes of a PNG or a JPEG XL file with values set: its Exif data are changed as a TIFF file
--- is, and put into it again.
+-- What becomes of a PNG or a JPEG XL file whose Exif data are changed as a TIFF file is, and put into
+-- it again.
 use Rattle.std.specs.Prelude.{ℕ, List, [], ◌∷◌, Option, None, Some, Result, Ok, Err}
-use Rattle.exif_assign.specs.declared.assignment.Assignment.{Assignment}
-use Rattle.exif_datetime.specs.declared.shift.ClockShift.{ClockShift}
 use Rattle.exif_formats.specs.Pictures.{png_data}
 use Rattle.exif_segments.specs.declared.remove.Remove.TheVariants as remove
 use Rattle.exif_types.specs.Refusals as types
 use Rattle.exif_types.specs.Refusals.{not_found}
 use Rattle.exif_types.specs.declared.field.Field.{Field}
 use Rattle.exif_change.specs.Changed.{Change, whole}
+use Rattle.exif_change.specs.Fields.{fields_set}
 use Rattle.exif_change.specs.Growing.{new_data}
 use Rattle.exif_change.specs.Refusals.{Why, as_read, reading, ◌>>=◌}
 use Rattle.exif_change.specs.Setting.{assigned_behind, set_file}
 use Rattle.exif_change.specs.Shifting.{shifted}
-use Rattle.exif_change.specs.declared.dates.Dates.{Dates}
+use Rattle.exif_pictures.specs.Edits.{Edit, the_values, the_fields, the_shift}
 use Rattle.exif_pictures.specs.JxlChanges as jxl
 use Rattle.exif_pictures.specs.JxlChanges.{jxl_data}
 use Rattle.exif_pictures.specs.PngChanges as png
@@ -46,26 +45,30 @@ abbrev pub put_new : Container → List ℕ → Option (List ℕ) → Result Cha
 put_new container file None = Ok (whole file)
 put_new container file (Some data') = put_data container file data' >>= λ new. Ok (whole new)
 
--- a file that has no Exif data with values set
-abbrev pub created : Container → List Assignment → List ℕ → Result Change Why
-created container assignments file =
-    assigned_behind [] assignments ([], [])
-    >>= λ sets. data_with sets.0 >>= put_new container file
+-- TIFF data, or a file that the reader knows, with its Exif data changed
+abbrev pub data_changed : Edit → List ℕ → Result Change Why
+data_changed (the_values assignments) file = set_file assignments file
+data_changed (the_fields all) file = fields_set all file
+data_changed (the_shift by dates) file = shifted by dates file
 
--- a file with values set, by its Exif data
-abbrev pub set_in : Container → List Assignment → List ℕ → Result (List ℕ) types.Refusal
+-- the new Exif data of a file that has none, in which no dates are moved
+abbrev pub new_data_for : Edit → List ℕ → Result (Option (List ℕ)) Why
+new_data_for (the_values assignments) what =
+    assigned_behind [] assignments ([], []) >>= λ sets. data_with sets.0
+new_data_for (the_fields all) what = data_with all
+new_data_for (the_shift by dates) what = Err (reading (not_found what))
+
+-- a file that has no Exif data with new ones
+abbrev pub created : Container → Edit → List ℕ → List ℕ → Result Change Why
+created container edit what file = new_data_for edit what >>= put_new container file
+
+-- a file with its Exif data changed, by what they are
+abbrev pub edited_data : Container → Edit → List ℕ → Result (List ℕ) types.Refusal
     → Result Change Why
-set_in container assignments file (Ok data') =
-    set_file assignments data' >>= put_change container file
-set_in container assignments file (Err (not_found what)) = created container assignments file
-set_in container assignments file (Err refusal) = Err (reading refusal)
+edited_data container edit file (Ok data') = data_changed edit data' >>= put_change container file
+edited_data container edit file (Err (not_found what)) = created container edit what file
+edited_data container edit file (Err refusal) = Err (reading refusal)
 
--- a file with values set
-abbrev pub contained_set : Container → List Assignment → List ℕ → Result Change Why
-contained_set container assignments file =
-    set_in container assignments file (contained container file)
-
--- a file with its dates moved
-abbrev pub contained_shifted : Container → ClockShift → Dates → List ℕ → Result Change Why
-contained_shifted container by dates file =
-    as_read (contained container file) >>= shifted by dates >>= put_change container file
+-- a file with its Exif data changed
+abbrev pub edited_in : Container → Edit → List ℕ → Result Change Why
+edited_in container edit file = edited_data container edit file (contained container file)

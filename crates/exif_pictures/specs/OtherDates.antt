@@ -72,9 +72,13 @@ is_date tag = elim tag.0 [
   | context.Interop ↦ false
 ]
 
-abbrev pub sets_date : Assignment → Bool
-sets_date assignment = is_date assignment.tag
+-- whether a value is assigned to one, and whether a field is one
+abbrev pub assigns_date : Assignment → Bool
+assigns_date assignment = is_date assignment.tag
 
--- whether dates are set of a file that may have others, too
-abbrev pub leaves_dates : List Assignment → List ℕ → Bool
-leaves_dates assignments file = list_any sets_date assignments && has_other_dates file
+abbrev pub is_date_field : Field → Bool
+is_date_field f = is_date f.tag
+
+-- whether dates stay in a file in which dates are set, or none
+abbrev pub leaves_dates : Bool → List ℕ → Bool
+leaves_dates sets_date file = sets_date && has_other_dates file

@@ -1,18 +1,21 @@
 -- What becomes of a picture, by its format.
-use Rattle.std.specs.Prelude.{ℕ, List, [], ◌∷◌, ◌++◌, codes, Some, None, Result, Ok, Err, if◌then◌else◌}
+use Rattle.std.specs.Prelude.{ℕ, List, [], ◌∷◌, ◌++◌, codes, take, Option, Some, None, Result, Ok, Err, if◌then◌else◌}
+use Rattle.std.specs.List.{list_any}
 use Rattle.exif_assign.specs.declared.assignment.Assignment.{Assignment}
 use Rattle.exif_datetime.specs.declared.shift.ClockShift.{ClockShift}
+use Rattle.exif_formats.specs.Formats.{format_in}
+use Rattle.exif_formats.specs.declared.format.PictureFormat.{PictureFormat}
+use Rattle.exif_formats.specs.declared.format.PictureFormat.TheVariants as format
 use Rattle.exif_inventory.specs.Walks.{inventory}
 use Rattle.exif_locations.specs.declared.unread.Unread.{Unread}
 use Rattle.exif_privacy.specs.Erasing as privacy
 use Rattle.exif_rewrite.specs.Color.{colorless}
 use Rattle.exif_types.specs.Refusals.{invalid_format, not_supported}
+use Rattle.exif_types.specs.declared.field.Field.{Field}
 use Rattle.exif_change.specs.Changed.{Change, cut_off, whole}
 use Rattle.exif_change.specs.Changes.{if_parted, keeps_orientation, scrubbed, scrubbed_with_color, with_color}
 use Rattle.exif_change.specs.Notes as notes
 use Rattle.exif_change.specs.Refusals.{Why, reading}
-use Rattle.exif_change.specs.Setting.{set_file}
-use Rattle.exif_change.specs.Shifting.{shifted}
 use Rattle.exif_change.specs.declared.dates.Dates.{Dates}
 use Rattle.exif_change.specs.declared.notes.Color.{Color}
 use Rattle.exif_change.specs.declared.notes.Note.{Note}
@@ -20,17 +23,19 @@ use Rattle.exif_change.specs.declared.notes.Note.TheVariants.{OwnRotation}
 use Rattle.exif_change.specs.declared.scrubbing.Removed.{Removed}
 use Rattle.exif_change.specs.declared.scrubbing.Removed.TheVariants as removed
 use Rattle.exif_pictures.specs.Codestreams.{codestream_of}
-use Rattle.exif_pictures.specs.OtherDates.{has_other_dates, leaves_dates, with_other_dates}
-use Rattle.exif_pictures.specs.Contained.{contained_set, contained_shifted}
+use Rattle.exif_pictures.specs.OtherDates.{assigns_date, has_other_dates, is_date_field, leaves_dates, with_other_dates}
+use Rattle.exif_pictures.specs.Contained.{data_changed, edited_in}
+use Rattle.exif_pictures.specs.Edits.{Edit, the_values, the_fields, the_shift}
 use Rattle.exif_pictures.specs.JxlChanges.{jxl_emptied}
 use Rattle.exif_pictures.specs.PngChanges.{png_emptied, png_unlocated}
 use Rattle.exif_pictures.specs.Rotation.{file_turned, if_turned, png_turned}
-use Rattle.exif_pictures.specs.Ways.{way_for}
 use Rattle.exif_pictures.specs.declared.codestream.Codestream.{Codestream}
 use Rattle.exif_pictures.specs.declared.codestream.Codestream.TheVariants as codestream
 use Rattle.exif_pictures.specs.declared.contained.Container.TheVariants as container
-use Rattle.exif_pictures.specs.declared.way.Way.{Way}
-use Rattle.exif_pictures.specs.declared.way.Way.TheVariants as way
+
+-- the format of a file, by its first 4096 bytes
+abbrev pub format_of : List ℕ → Option PictureFormat
+format_of file = format_in (take 4096 file)
 
 -- raw files are refused
 abbrev pub raw_refused : Why
@@ -77,14 +82,15 @@ abbrev pub jxl_scrubbed : Removed → List ℕ → Result Change Why
 jxl_scrubbed removed file = by_codestream (codestream_of file) (jxl_without removed file)
 
 -- a file without what is removed
-abbrev pub scrubbed_by : Way → Removed → List ℕ → Result Change Why
-scrubbed_by way.Known removed file = scrubbed removed file
-scrubbed_by way.Png removed file = png_scrubbed removed file
-scrubbed_by way.Jxl removed file = jxl_scrubbed removed file
-scrubbed_by way.Raw removed file = Err raw_refused
+abbrev pub scrubbed_by : Option PictureFormat → Removed → List ℕ → Result Change Why
+scrubbed_by None removed file = scrubbed removed file
+scrubbed_by (Some (format.Container known)) removed file = scrubbed removed file
+scrubbed_by (Some format.Png) removed file = png_scrubbed removed file
+scrubbed_by (Some format.JpegXl) removed file = jxl_scrubbed removed file
+scrubbed_by (Some raw) removed file = Err raw_refused
 
 abbrev pub picture_scrubbed : Removed → List ℕ → Result Change Why
-picture_scrubbed removed file = scrubbed_by (way_for file) removed file
+picture_scrubbed removed file = scrubbed_by (format_of file) removed file
 
 -- a PNG file without its colour profile, and without what is removed beside it
 abbrev pub png_with_color : Removed → List ℕ → Result Change Why
@@ -94,57 +100,57 @@ png_with_color removed file = elim (colorless file) [
 ]
 
 -- a file without its colour profile, which JPEG XL files keep, and without what is removed
-abbrev pub color_scrubbed_by : Way → Removed → List ℕ → Result Change Why
-color_scrubbed_by way.Known removed file = scrubbed_with_color removed file
-color_scrubbed_by way.Png removed file = png_with_color removed file
-color_scrubbed_by way.Jxl removed file = with_color (jxl_scrubbed removed file)
-color_scrubbed_by way.Raw removed file = Err raw_refused
+abbrev pub color_scrubbed_by : Option PictureFormat → Removed → List ℕ → Result Change Why
+color_scrubbed_by None removed file = scrubbed_with_color removed file
+color_scrubbed_by (Some (format.Container known)) removed file = scrubbed_with_color removed file
+color_scrubbed_by (Some format.Png) removed file = png_with_color removed file
+color_scrubbed_by (Some format.JpegXl) removed file = with_color (jxl_scrubbed removed file)
+color_scrubbed_by (Some raw) removed file = Err raw_refused
 
 abbrev pub picture_scrubbed_with_color : Removed → List ℕ → Result Change Why
-picture_scrubbed_with_color removed file = color_scrubbed_by (way_for file) removed file
+picture_scrubbed_with_color removed file = color_scrubbed_by (format_of file) removed file
 
--- a JPEG XL file with values set, if it has a codestream
-abbrev pub jxl_set : List Assignment → List ℕ → Result Change Why
-jxl_set assignments file =
-    by_codestream (codestream_of file) (contained_set container.Jxl assignments file)
+-- a JPEG XL file with its Exif data changed, if it has a codestream
+abbrev pub jxl_edited : Edit → List ℕ → Result Change Why
+jxl_edited edit file = by_codestream (codestream_of file) (edited_in container.Jxl edit file)
+
+-- a file with its Exif data changed
+abbrev pub edited_by : Option PictureFormat → Edit → List ℕ → Result Change Why
+edited_by None edit file = data_changed edit file
+edited_by (Some (format.Container known)) edit file = data_changed edit file
+edited_by (Some format.Png) edit file = edited_in container.Png edit file
+edited_by (Some format.JpegXl) edit file = jxl_edited edit file
+edited_by (Some raw) edit file = Err raw_refused
 
 -- a file with values set; where dates are, those that it may have beside its Exif data stay
-abbrev pub set_by : Way → List Assignment → List ℕ → Result Change Why
-set_by way.Known assignments file = set_file assignments file
-set_by way.Png assignments file = contained_set container.Png assignments file
-set_by way.Jxl assignments file = jxl_set assignments file
-set_by way.Raw assignments file = Err raw_refused
-
 abbrev pub picture_set : List Assignment → List ℕ → Result Change Why
 picture_set assignments file =
-    with_other_dates (leaves_dates assignments file) (set_by (way_for file) assignments file)
+    with_other_dates (leaves_dates (list_any assigns_date assignments) file)
+    (edited_by (format_of file) (the_values assignments) file)
 
--- a JPEG XL file with its dates moved, if it has a codestream
-abbrev pub jxl_shifted : ClockShift → Dates → List ℕ → Result Change Why
-jxl_shifted by dates file =
-    by_codestream (codestream_of file) (contained_shifted container.Jxl by dates file)
+-- a file with fields set, likewise
+abbrev pub picture_fields_set : List Field → List ℕ → Result Change Why
+picture_fields_set all file =
+    with_other_dates (leaves_dates (list_any is_date_field all) file)
+    (edited_by (format_of file) (the_fields all) file)
 
 -- a file with its dates moved; those that it may have beside its Exif data stay
-abbrev pub shifted_by : Way → ClockShift → Dates → List ℕ → Result Change Why
-shifted_by way.Known by dates file = shifted by dates file
-shifted_by way.Png by dates file = contained_shifted container.Png by dates file
-shifted_by way.Jxl by dates file = jxl_shifted by dates file
-shifted_by way.Raw by dates file = Err raw_refused
-
 abbrev pub picture_shifted : ClockShift → Dates → List ℕ → Result Change Why
 picture_shifted by dates file =
-    with_other_dates (has_other_dates file) (shifted_by (way_for file) by dates file)
+    with_other_dates (has_other_dates file) (edited_by (format_of file) (the_shift by dates) file)
 
 -- the notes on a file that is scrubbed: a JPEG XL file keeps the orientation of its picture, and
 -- that of other files goes with their Exif data
-abbrev pub notes_by : Way → Removed → Color → List ℕ → List Note
-notes_by way.Jxl removed color file =
+abbrev pub notes_by : Option PictureFormat → Removed → Color → List ℕ → List Note
+notes_by (Some format.JpegXl) removed color file =
     if keeps_orientation removed then OwnRotation ∷ [] else []
-notes_by way.Known removed color file =
+notes_by None removed color file =
     notes.scrub_notes removed color file ++ if_turned removed (file_turned file)
-notes_by way.Png removed color file =
+notes_by (Some (format.Container known)) removed color file =
+    notes.scrub_notes removed color file ++ if_turned removed (file_turned file)
+notes_by (Some format.Png) removed color file =
     notes.scrub_notes removed color file ++ if_turned removed (png_turned file)
-notes_by way.Raw removed color file = notes.scrub_notes removed color file
+notes_by (Some raw) removed color file = notes.scrub_notes removed color file
 
 abbrev pub picture_notes : Removed → Color → List ℕ → List Note
-picture_notes removed color file = notes_by (way_for file) removed color file
+picture_notes removed color file = notes_by (format_of file) removed color file

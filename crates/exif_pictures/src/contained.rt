@@ -1,12 +1,12 @@
-//! PNG and JPEG XL files with values set: their Exif data are changed as a TIFF file is, and put
-//! into them again.
+//! PNG and JPEG XL files whose Exif data are changed as a TIFF file is, and put into them again.
 
 ghost use Rattle.std.specs.Prelude.{◌≡◌, []};
 ghost use Rattle.std.specs.Option.{option_map};
 ghost use Rattle.exif_types.specs.Refusals.{Gives};
 ghost use Rattle.exif_change.specs.Changed.{change_of};
 ghost use Rattle.exif_change.specs.Refusals.{Answers};
-ghost use Rattle.exif_pictures.specs.Contained.{contained, contained_set, contained_shifted, created, data_with, put_change, put_data, put_new};
+ghost use Rattle.exif_pictures.specs.Contained.{contained, created, data_changed, data_with, edited_in, new_data_for, put_change, put_data, put_new};
+ghost use Rattle.exif_pictures.specs.Edits.{edit_of};
 
 use crate::{jxl, png};
 use exif::{Error, Field};
@@ -22,6 +22,32 @@ pub(crate) enum Container {
     Png,
     /// A box of a JPEG XL file.
     Jxl,
+}
+
+/// What is changed in Exif data.
+#[derive(Clone, Copy)]
+pub(crate) enum DataEdit<'v, 'a> {
+    /// Values are set, which texts spell.
+    Values(&'v [Assignment<'a>]),
+    /// Fields are set.
+    Fields(&'v [Field]),
+    /// Dates are moved.
+    Shift(ClockShift, Dates),
+}
+
+/// TIFF data, or a file that the reader knows, with its Exif data changed.
+pub(crate) fn data_changed(
+    alloc: Global,
+    edit: DataEdit<'_, '_>,
+    file: Vec<u8>,
+) -> Result<Changed, Refusal>
+    ensures { Answers change_of result (data_changed (edit_of edit.entry) file.items) }
+{
+    match edit {
+        DataEdit::Values(assignments) => exif_change::set(alloc, file, assignments),
+        DataEdit::Fields(fields) => exif_change::set_fields(alloc, file, fields),
+        DataEdit::Shift(by, dates) => exif_change::shift(alloc, file, by, dates),
+    }
 }
 
 // The Exif data of a file.
@@ -105,55 +131,55 @@ pub(crate) fn whole(alloc: Global, file: Vec<u8>) -> Changed
     }
 }
 
-// A file that has no Exif data with values set.
-fn created(
+// The new Exif data of a file that has none. No dates are moved in them.
+fn new_data_for(
     alloc: Global,
-    container: Container,
-    assignments: &[Assignment<'_>],
-    file: Vec<u8>,
-) -> Result<Changed, Refusal>
-    ensures { Answers change_of result (created container assignments.now file.items) }
+    edit: DataEdit<'_, '_>,
+    what: &'static str,
+) -> Result<Option<Vec<u8>>, Refusal>
+    ensures { Answers (option_map (λ v. v.items)) result
+        (new_data_for (edit_of edit.entry) what.now) }
 {
-    let sets = assigned(alloc, None, assignments)?;
-    let exif = data_with(alloc, sets.single.as_slice())?;
-    put_new(alloc, container, file, exif)
-}
-
-/// A file with values set: in its Exif data, as in a TIFF file, or in new ones.
-pub(crate) fn set(
-    alloc: Global,
-    container: Container,
-    assignments: &[Assignment<'_>],
-    file: Vec<u8>,
-) -> Result<Changed, Refusal>
-    ensures { Answers change_of result
-        (contained_set container assignments.now file.items) }
-{
-    match data_of(alloc, container, file.as_slice()) {
-        Ok(exif) => {
-            let changed = exif_change::set(alloc, exif, assignments)?;
-            put_change(alloc, container, file.as_slice(), changed)
+    match edit {
+        DataEdit::Values(assignments) => {
+            let sets = assigned(alloc, None, assignments)?;
+            data_with(alloc, sets.single.as_slice())
         }
-        Err(Error::NotFound(_)) => created(alloc, container, assignments, file),
-        Err(error) => Err(Refusal::Reading(error)),
+        DataEdit::Fields(fields) => data_with(alloc, fields),
+        DataEdit::Shift(..) => Err(Refusal::Reading(Error::NotFound(what))),
     }
 }
 
-/// A file with its dates moved.
-pub(crate) fn shift(
+// A file that has no Exif data with new ones.
+fn created(
     alloc: Global,
     container: Container,
-    by: ClockShift,
-    dates: Dates,
-    file: &[u8],
+    edit: DataEdit<'_, '_>,
+    what: &'static str,
+    file: Vec<u8>,
 ) -> Result<Changed, Refusal>
-    ensures { Answers change_of result (contained_shifted container by dates file.now) }
+    ensures { Answers change_of result
+        (created container (edit_of edit.entry) what.now file.items) }
 {
-    match data_of(alloc, container, file) {
+    let exif = new_data_for(alloc, edit, what)?;
+    put_new(alloc, container, file, exif)
+}
+
+/// A file with its Exif data changed as a TIFF file is, or with new ones.
+pub(crate) fn edited(
+    alloc: Global,
+    container: Container,
+    edit: DataEdit<'_, '_>,
+    file: Vec<u8>,
+) -> Result<Changed, Refusal>
+    ensures { Answers change_of result (edited_in container (edit_of edit.entry) file.items) }
+{
+    match data_of(alloc, container, file.as_slice()) {
         Ok(exif) => {
-            let changed = exif_change::shift(alloc, exif, by, dates)?;
-            put_change(alloc, container, file, changed)
+            let changed = data_changed(alloc, edit, exif)?;
+            put_change(alloc, container, file.as_slice(), changed)
         }
+        Err(Error::NotFound(what)) => created(alloc, container, edit, what, file),
         Err(error) => Err(Refusal::Reading(error)),
     }
 }

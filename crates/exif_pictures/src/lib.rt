@@ -11,6 +11,5 @@ mod other_dates;
 mod pictures;
 mod png;
 mod rotation;
-mod way;
 
-pub use pictures::{scrub, scrub_notes, scrub_with_color, set, shift};
+pub use pictures::{scrub, scrub_notes, scrub_with_color, set, set_fields, shift};

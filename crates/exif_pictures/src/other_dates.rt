@@ -5,7 +5,7 @@ ghost use Rattle.std.specs.List.{list_any};
 ghost use Rattle.exif_change.specs.Changed.{change_of};
 ghost use Rattle.exif_change.specs.Reading.{file_contents};
 ghost use Rattle.exif_change.specs.Refusals.{Answers};
-ghost use Rattle.exif_pictures.specs.OtherDates.{has_dated_field, has_dated_part, has_other_dates, is_date, is_dated_field, is_dated_kind, is_dated_part, is_dated_tag, leaves_dates, sets_date, with_other_dates};
+ghost use Rattle.exif_pictures.specs.OtherDates.{assigns_date, has_dated_field, has_dated_part, has_other_dates, is_date, is_date_field, is_dated_field, is_dated_kind, is_dated_part, is_dated_tag, leaves_dates, with_other_dates};
 
 use exif::{Context, Error, Field, Tag};
 use exif_change::{Assignment, Changed, Left, Refusal, read};
@@ -90,22 +90,25 @@ fn is_date(tag: Tag) -> bool
     }
 }
 
-// Whether dates are set.
-fn sets_dates(assignments: &[Assignment<'_>]) -> bool
-    ensures { result ≡ list_any sets_date assignments.now }
+/// Whether a value is assigned to a date.
+pub(crate) fn assigns_date(assignments: &[Assignment<'_>]) -> bool
+    ensures { result ≡ list_any assigns_date assignments.now }
 {
     assignments.iter().any(|assignment| is_date(assignment.tag))
 }
 
-/// Whether dates are set of a file that may have others, too.
-pub(crate) fn leaves_dates(
-    alloc: Global,
-    file: &[u8],
-    assignments: &[Assignment<'_>],
-) -> Result<bool, AllocError>
-    ensures { IfOk result (λ leaves. leaves ≡ leaves_dates assignments.now file.now) }
+/// Whether a field is a date.
+pub(crate) fn has_date(fields: &[Field]) -> bool
+    ensures { result ≡ list_any is_date_field fields.now }
 {
-    if sets_dates(assignments) {
+    fields.iter().any(|field| is_date(field.tag))
+}
+
+/// Whether dates stay in a file in which dates are set, or none.
+pub(crate) fn leaves_dates(alloc: Global, file: &[u8], sets_date: bool) -> Result<bool, AllocError>
+    ensures { IfOk result (λ leaves. leaves ≡ leaves_dates sets_date file.now) }
+{
+    if sets_date {
         has_other_dates(alloc, file)
     } else {
         Ok(false)

@@ -6,20 +6,20 @@ ghost use Rattle.exif_change.specs.Changes.{keeps_orientation, with_color};
 ghost use Rattle.exif_change.specs.Notes.{scrub_notes};
 ghost use Rattle.exif_change.specs.Refusals.{Answers, why_of};
 ghost use Rattle.exif_pictures.specs.Rotation.{if_turned};
-ghost use Rattle.exif_pictures.specs.Ways.{way_for};
-ghost use Rattle.exif_pictures.specs.Pictures.{if_cut_off, jxl_scrubbed, jxl_set, jxl_shifted, jxl_unlocated, jxl_without, no_codestream, picture_notes, picture_scrubbed, picture_scrubbed_with_color, picture_set, picture_shifted, png_scrubbed, png_with_color, raw_refused, set_by, shifted_by};
+ghost use Rattle.exif_pictures.specs.Edits.{edit_of};
+ghost use Rattle.exif_pictures.specs.Pictures.{edited_by, format_of, if_cut_off, jxl_edited, jxl_scrubbed, jxl_unlocated, jxl_without, no_codestream, picture_fields_set, picture_notes, picture_scrubbed, picture_scrubbed_with_color, picture_set, picture_shifted, png_scrubbed, png_with_color, raw_refused};
 
 use crate::codestream::{Codestream, codestream_of};
-use crate::contained::{Container, whole};
-use crate::other_dates::{has_other_dates, leaves_dates, with_other_dates};
+use crate::contained::{Container, DataEdit, data_changed, edited, whole};
+use crate::other_dates::{assigns_date, has_date, has_other_dates, leaves_dates, with_other_dates};
 use crate::rotation::{file_turned, note_turned, png_turned};
-use crate::way::{Way, way_for};
-use crate::{contained, jxl, png};
-use exif::Error;
+use crate::{jxl, png};
+use exif::{Error, Field};
 use exif_change::{
     Assignment, Changed, ClockShift, Color, Dates, Left, Note, Refusal, Removed, Unread,
     parts_unlocated,
 };
+use exif_formats::{PictureFormat, format_of_file};
 use exif_inventory::inventory;
 use exif_rewrite::without_color_profile;
 use std::alloc::{AllocError, Global};
@@ -97,17 +97,19 @@ fn jxl_scrubbed(alloc: Global, file: Vec<u8>, removed: Removed) -> Result<Change
 /// PNG and JPEG XL files are written again without the chunks or boxes that do not show the
 /// picture ([`exif_parts::rewrite_png`], [`exif_parts::rewrite_jxl`]). The picture of a JPEG XL
 /// file keeps its own orientation. Such a file that is cut off is changed as far as it goes, which
-/// is answered; one whose container has no codestream is refused. Where locations are erased no byte moves, and the
-/// CRCs of the chunks that were changed are mended. Raw files are refused. It takes the memory of
-/// the file and of the new one.
+/// is answered; one whose container has no codestream is refused. Where locations are erased no
+/// byte moves, and the CRCs of the chunks that were changed are mended. Raw files are refused. It
+/// takes the memory of the file and of the new one.
 pub fn scrub(alloc: Global, file: Vec<u8>, removed: Removed) -> Result<Changed, Refusal>
     ensures { Answers change_of result (picture_scrubbed removed file.items) }
 {
-    match way_for(file.as_slice()) {
-        Way::Known => exif_change::scrub(alloc, file, removed),
-        Way::Png => png_scrubbed(alloc, file, removed),
-        Way::Jxl => jxl_scrubbed(alloc, file, removed),
-        Way::Raw => Err(raw_refused()),
+    match format_of_file(file.as_slice()) {
+        Some(PictureFormat::Container(_)) | None => exif_change::scrub(alloc, file, removed),
+        Some(PictureFormat::Png) => png_scrubbed(alloc, file, removed),
+        Some(PictureFormat::JpegXl) => jxl_scrubbed(alloc, file, removed),
+        Some(PictureFormat::Raf | PictureFormat::Orf | PictureFormat::Rw2 | PictureFormat::Cr3) => {
+            Err(raw_refused())
+        }
     }
 }
 
@@ -135,52 +137,65 @@ fn png_with_color(alloc: Global, file: Vec<u8>, removed: Removed) -> Result<Chan
 pub fn scrub_with_color(alloc: Global, file: Vec<u8>, removed: Removed) -> Result<Changed, Refusal>
     ensures { Answers change_of result (picture_scrubbed_with_color removed file.items) }
 {
-    match way_for(file.as_slice()) {
-        Way::Known => exif_change::scrub_with_color(alloc, file, removed),
-        Way::Png => png_with_color(alloc, file, removed),
-        Way::Jxl => with_color(jxl_scrubbed(alloc, file, removed)?),
-        Way::Raw => Err(raw_refused()),
+    match format_of_file(file.as_slice()) {
+        Some(PictureFormat::Container(_)) | None => exif_change::scrub_with_color(
+            alloc, file, removed,
+        ),
+        Some(PictureFormat::Png) => png_with_color(alloc, file, removed),
+        Some(PictureFormat::JpegXl) => with_color(jxl_scrubbed(alloc, file, removed)?),
+        Some(PictureFormat::Raf | PictureFormat::Orf | PictureFormat::Rw2 | PictureFormat::Cr3) => {
+            Err(raw_refused())
+        }
+    }
+}
+
+// A JPEG XL file with its Exif data changed, if it has a codestream.
+fn jxl_edited(alloc: Global, edit: DataEdit<'_, '_>, file: Vec<u8>) -> Result<Changed, Refusal>
+    ensures { Answers change_of result (jxl_edited (edit_of edit.entry) file.items) }
+{
+    match codestream_of(file.as_slice()) {
+        Codestream::Absent => Err(no_codestream()),
+        Codestream::CutOff => cut_off(edited(alloc, Container::Jxl, edit, file)?),
+        Codestream::Whole => edited(alloc, Container::Jxl, edit, file),
+    }
+}
+
+// The picture with its Exif data changed, by its format.
+fn edit_by_format(alloc: Global, edit: DataEdit<'_, '_>, file: Vec<u8>) -> Result<Changed, Refusal>
+    ensures { Answers change_of result
+        (edited_by (format_of file.items) (edit_of edit.entry) file.items) }
+{
+    match format_of_file(file.as_slice()) {
+        Some(PictureFormat::Container(_)) | None => data_changed(alloc, edit, file),
+        Some(PictureFormat::Png) => edited(alloc, Container::Png, edit, file),
+        Some(PictureFormat::JpegXl) => jxl_edited(alloc, edit, file),
+        Some(PictureFormat::Raf | PictureFormat::Orf | PictureFormat::Rw2 | PictureFormat::Cr3) => {
+            Err(raw_refused())
+        }
     }
 }
 
 /// The picture with values set: [`exif_change::set`] for TIFF, JPEG, HEIF and WebP files. The Exif
 /// data of a PNG or JPEG XL file are changed as a TIFF file is, or it gets new ones. Other files
-/// are refused, and so are compressed Exif data of a JPEG XL file and a codestream without a container.
-/// A JPEG XL file that is cut off is changed as far as it goes, which is answered. Where a date is
-/// set and the file has XMP or IPTC data, the answer has that their dates stay.
+/// are refused, and so are compressed Exif data of a JPEG XL file and a codestream without a
+/// container. A JPEG XL file that is cut off is changed as far as it goes, which is answered. Where
+/// a date is set and the file has XMP or IPTC data, the answer has that their dates stay.
 pub fn set(alloc: Global, file: Vec<u8>, assignments: &[Assignment<'_>]) -> Result<Changed, Refusal>
     ensures { Answers change_of result (picture_set assignments.now file.items) }
 {
-    let others = leaves_dates(alloc, file.as_slice(), assignments)?;
-    with_other_dates(others, set_by_way(alloc, file, assignments)?)
+    let others = leaves_dates(alloc, file.as_slice(), assigns_date(assignments))?;
+    let edit = DataEdit::Values(assignments);
+    with_other_dates(others, edit_by_format(alloc, edit, file)?)
 }
 
-// A JPEG XL file with values set, if it has a codestream.
-fn jxl_set(alloc: Global, assignments: &[Assignment<'_>], file: Vec<u8>) -> Result<Changed, Refusal>
-    ensures { Answers change_of result (jxl_set assignments.now file.items) }
+/// The picture with fields set, as [`set`] sets values that texts spell: by
+/// [`exif_change::set_fields`] in TIFF, JPEG, HEIF and WebP files.
+pub fn set_fields(alloc: Global, file: Vec<u8>, fields: &[Field]) -> Result<Changed, Refusal>
+    ensures { Answers change_of result (picture_fields_set fields.now file.items) }
 {
-    match codestream_of(file.as_slice()) {
-        Codestream::Absent => Err(no_codestream()),
-        Codestream::CutOff => { cut_off(contained::set(alloc, Container::Jxl, assignments, file)?) }
-        Codestream::Whole => contained::set(alloc, Container::Jxl, assignments, file),
-    }
-}
-
-// The picture with values set, by its format.
-fn set_by_way(
-    alloc: Global,
-    file: Vec<u8>,
-    assignments: &[Assignment<'_>],
-) -> Result<Changed, Refusal>
-    ensures { Answers change_of result
-        (set_by (way_for file.items) assignments.now file.items) }
-{
-    match way_for(file.as_slice()) {
-        Way::Known => exif_change::set(alloc, file, assignments),
-        Way::Png => contained::set(alloc, Container::Png, assignments, file),
-        Way::Jxl => jxl_set(alloc, assignments, file),
-        Way::Raw => Err(raw_refused()),
-    }
+    let others = leaves_dates(alloc, file.as_slice(), has_date(fields))?;
+    let edit = DataEdit::Fields(fields);
+    with_other_dates(others, edit_by_format(alloc, edit, file)?)
 }
 
 /// The picture with its dates moved: [`exif_change::shift`], also in the Exif data of a PNG or JPEG
@@ -189,35 +204,8 @@ pub fn shift(alloc: Global, file: Vec<u8>, by: ClockShift, dates: Dates) -> Resu
     ensures { Answers change_of result (picture_shifted by dates file.items) }
 {
     let others = has_other_dates(alloc, file.as_slice())?;
-    with_other_dates(others, shift_by_way(alloc, file, by, dates)?)
-}
-
-// A JPEG XL file with its dates moved, if it has a codestream.
-fn jxl_shifted(alloc: Global, by: ClockShift, dates: Dates, file: &[u8]) -> Result<Changed, Refusal>
-    ensures { Answers change_of result (jxl_shifted by dates file.now) }
-{
-    match codestream_of(file) {
-        Codestream::Absent => Err(no_codestream()),
-        Codestream::CutOff => cut_off(contained::shift(alloc, Container::Jxl, by, dates, file)?),
-        Codestream::Whole => contained::shift(alloc, Container::Jxl, by, dates, file),
-    }
-}
-
-// The picture with its dates moved, by its format.
-fn shift_by_way(
-    alloc: Global,
-    file: Vec<u8>,
-    by: ClockShift,
-    dates: Dates,
-) -> Result<Changed, Refusal>
-    ensures { Answers change_of result (shifted_by (way_for file.items) by dates file.items) }
-{
-    match way_for(file.as_slice()) {
-        Way::Known => exif_change::shift(alloc, file, by, dates),
-        Way::Png => contained::shift(alloc, Container::Png, by, dates, file.as_slice()),
-        Way::Jxl => jxl_shifted(alloc, by, dates, file.as_slice()),
-        Way::Raw => Err(raw_refused()),
-    }
+    let edit = DataEdit::Shift(by, dates);
+    with_other_dates(others, edit_by_format(alloc, edit, file)?)
 }
 
 // The note that a picture keeps its own orientation.
@@ -248,8 +236,8 @@ fn notes_with(
     Ok(notes)
 }
 
-/// What the user is to know of a picture that is scrubbed: [`exif_change::scrub_notes`], and that an
-/// orientation other than upright goes with the Exif data.
+/// What the user is to know of a picture that is scrubbed: [`exif_change::scrub_notes`], and that
+/// an orientation other than upright goes with the Exif data.
 pub fn scrub_notes(
     alloc: Global,
     file: &[u8],
@@ -258,10 +246,16 @@ pub fn scrub_notes(
 ) -> Result<Vec<Note>, AllocError>
     ensures { IfOk result (λ notes. notes.items ≡ picture_notes removed color file.now) }
 {
-    match way_for(file) {
-        Way::Jxl => own_rotation(alloc, removed),
-        Way::Known => notes_with(alloc, file, removed, color, file_turned(alloc, file)?),
-        Way::Png => notes_with(alloc, file, removed, color, png_turned(alloc, file)?),
-        Way::Raw => exif_change::scrub_notes(alloc, file, removed, color),
+    match format_of_file(file) {
+        Some(PictureFormat::JpegXl) => own_rotation(alloc, removed),
+        Some(PictureFormat::Container(_)) | None => {
+            notes_with(alloc, file, removed, color, file_turned(alloc, file)?)
+        }
+        Some(PictureFormat::Png) => {
+            notes_with(alloc, file, removed, color, png_turned(alloc, file)?)
+        }
+        Some(PictureFormat::Raf | PictureFormat::Orf | PictureFormat::Rw2 | PictureFormat::Cr3) => {
+            exif_change::scrub_notes(alloc, file, removed, color)
+        }
     }
 }

@@ -11,7 +11,7 @@ use exif_inventory::{Kind, Part};
 use std::alloc::{AllocError, Global};
 
 // How many bytes come before a portion: GUID, length of the packet, and offset in it.
-const FRONT: usize = 40;
+const PORTION_HEADER_LEN: usize = 40;
 
 /// The data of a part.
 pub fn data_of(file: &[u8], part: Part) -> &[u8]
@@ -25,7 +25,7 @@ pub fn data_of(file: &[u8], part: Part) -> &[u8]
 fn has_portion(part: Part) -> bool
     ensures { result ≡ has_portion part }
 {
-    matches!(part.kind, Kind::ExtendedXmp) && part.data_len > FRONT
+    matches!(part.kind, Kind::ExtendedXmp) && part.data_len > PORTION_HEADER_LEN
 }
 
 // The portion of a part alone.
@@ -38,8 +38,8 @@ fn portion(part: Part) -> Part
         picture: part.picture,
         offset: part.offset,
         len: part.len,
-        data_offset: part.data_offset + part.data_len.min(FRONT),
-        data_len: part.data_len.saturating_sub(FRONT),
+        data_offset: part.data_offset + part.data_len.min(PORTION_HEADER_LEN),
+        data_len: part.data_len.saturating_sub(PORTION_HEADER_LEN),
     }
 }
 
@@ -71,7 +71,7 @@ fn is_next(first: &[u8], at: usize, bytes: &[u8]) -> bool
 {
     packet_of(bytes) == packet_of(first)
         && number_of(bytes, 36) == at
-        && bytes.len() - FRONT <= number_of(first, 32).saturating_sub(at)
+        && bytes.len() - PORTION_HEADER_LEN <= number_of(first, 32).saturating_sub(at)
 }
 
 // Whether a part goes on so with the packet that another part of the same picture begins.
@@ -104,7 +104,7 @@ fn run_len(file: &[u8], first: Part, parts: &[Part]) -> usize
         if !goes_on(file, first, at, *part) {
             return 0;
         }
-        at += part.data_len - FRONT;
+        at += part.data_len - PORTION_HEADER_LEN;
     }
     if at == full { parts.len() } else { 0 }
 }

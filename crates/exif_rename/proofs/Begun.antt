@@ -14,10 +14,10 @@ use Rattle.exif_files.specs.Each.{is_among}
 use Rattle.exif_files.specs.States.{State, Now}
 use Rattle.exif_rename.specs.Planned.{free_in, with_paths}
 use Rattle.exif_rename.specs.Starts.{AreStarts, NoneOpenBelow, NoneOpenFirst, is_open, series_cmp}
-use Rattle.exif_rename.specs.Wishes.{File, candidate, file_of, path_of}
+use Rattle.exif_rename.specs.RenameRequests.{File, candidate, file_of, path_of}
 use Rattle.exif_rename.specs.declared.starts.Series.{Series}
-use Rattle.exif_rename.specs.declared.wish.Wish.{Wish}
-use Rattle.exif_rename.specs.declared.wish.WishFile.{WishFile}
+use Rattle.exif_rename.specs.declared.request.RenameRequest.{RenameRequest}
+use Rattle.exif_rename.specs.declared.request.RequestFile.{RequestFile}
 use Rattle.exif_rename.proofs.Plans.{FitIs, now_all, now_both, now_map}
 use Rattle.exif_rename.proofs.Searches.{Begins}
 use Rattle.exif_rename.proofs.Kept.{Chosen}
@@ -85,25 +85,25 @@ closed_with free is_given starts starts' series other start number true all none
     (subst (λ (t : List ℕ). P (string_bytes other.base) t start) w.1 (subst (λ (b : List ℕ). P b (string_bytes series.ending) start) w.0 none))
 closed_with free is_given starts starts' series other start number false all none at e = all other number e
 
-start_of_first : (free is_given : List ℕ → Bool) (base : List ℕ) (files : List WishFile) (file : WishFile) (start : ℕ) → slice_get files 0 ≡ Some file
+start_of_first : (free is_given : List ℕ → Bool) (base : List ℕ) (files : List RequestFile) (file : RequestFile) (start : ℕ) → slice_get files 0 ≡ Some file
     → NoneOpenBelow free is_given base (string_bytes file.ending) start → NoneOpenFirst free is_given base (map file_of files) start
 start_of_first free is_given base [] file start is none = cc
 start_of_first free is_given base (first ∷ files) file start is none =
     let one : file ≡ first = cc in
-    subst (λ (f : WishFile). NoneOpenBelow free is_given base (string_bytes f.ending) start) one none
+    subst (λ (f : RequestFile). NoneOpenBelow free is_given base (string_bytes f.ending) start) one none
 
 -- the start that was found is one
-pub start_found : (a : List State) (is_given : List ℕ → Bool) (starts : BTreeMap Series ℕ) (series : Series) (wish : Wish) (file : WishFile) (known start : ℕ)
-    → known ≡ unwrap_or (get series_cmp starts series) 0 → string_bytes series.base ≡ string_bytes wish.base → string_bytes series.ending ≡ string_bytes file.ending
-    → slice_get wish.files.items 0 ≡ Some file → NoneFrom a is_given (string_bytes series.base) (string_bytes series.ending) known start
-    → Now a (λ s. AreStarts (free_in s) is_given starts → Begins s is_given wish start)
-start_found a is_given starts series wish file known start known_is base ending first none =
+pub start_found : (a : List State) (is_given : List ℕ → Bool) (starts : BTreeMap Series ℕ) (series : Series) (request : RenameRequest) (file : RequestFile) (known start : ℕ)
+    → known ≡ unwrap_or (get series_cmp starts series) 0 → string_bytes series.base ≡ string_bytes request.base → string_bytes series.ending ≡ string_bytes file.ending
+    → slice_get request.files.items 0 ≡ Some file → NoneFrom a is_given (string_bytes series.base) (string_bytes series.ending) known start
+    → Now a (λ s. AreStarts (free_in s) is_given starts → Begins s is_given request start)
+start_found a is_given starts series request file known start known_is base ending first none =
     now_map _ _ a none (λ s more all.
     let P : List ℕ → List ℕ → Type 0 = λ b t. NoneOpenBelow (free_in s) is_given b t start in
     let Q : ℕ → Type 0 = λ n. NoneOpenBelow (free_in s) is_given (string_bytes series.base) (string_bytes series.ending) n in
     let before : Q known = subst Q (sym known_is) (known_from (free_in s) is_given starts series (get series_cmp starts series) all refl) in
-    start_of_first (free_in s) is_given (string_bytes wish.base) wish.files.items file start first
-    (subst (λ (t : List ℕ). P (string_bytes wish.base) t) ending (subst (λ (b : List ℕ). P b (string_bytes series.ending)) base (more before))))
+    start_of_first (free_in s) is_given (string_bytes request.base) request.files.items file start first
+    (subst (λ (t : List ℕ). P (string_bytes request.base) t) ending (subst (λ (b : List ℕ). P b (string_bytes series.ending)) base (more before))))
 
 -- it may be kept
 pub start_kept : (a : List State) (is_given : List ℕ → Bool) (starts starts' : BTreeMap Series ℕ) (series : Series) (known start : ℕ)
@@ -148,9 +148,9 @@ closed_after a b is_given is_given' starts starts' name files names same are are
     (λ t. are' path ∙ among_stays name files names path (sym (are path) ∙ t)) (more before series start e k lt))
 
 -- what a search finds that begins at such a start
-pub wish_fits : (a b d : List State) (is_given : List ℕ → Bool) (starts : BTreeMap Series ℕ) (names : List (List ℕ)) (wish : Wish) (start : ℕ) (found : Option ℕ) → b ≡ a → d ≡ a
-    → Now a (λ s. AreStarts (free_in s) is_given starts) → Now b (λ s. AreStarts (free_in s) is_given starts → Begins s is_given wish start)
-    → Chosen d names is_given wish start found → FitIs a names wish found
-wish_fits a b d is_given starts names wish start found same same' closed begins finds =
-    let begun : Now a (λ s. Begins s is_given wish start) = now_both _ _ _ a b same closed begins (λ s x f. f x) in
+pub request_fits : (a b d : List State) (is_given : List ℕ → Bool) (starts : BTreeMap Series ℕ) (names : List (List ℕ)) (request : RenameRequest) (start : ℕ) (found : Option ℕ) → b ≡ a → d ≡ a
+    → Now a (λ s. AreStarts (free_in s) is_given starts) → Now b (λ s. AreStarts (free_in s) is_given starts → Begins s is_given request start)
+    → Chosen d names is_given request start found → FitIs a names request found
+request_fits a b d is_given starts names request start found same same' closed begins finds =
+    let begun : Now a (λ s. Begins s is_given request start) = now_both _ _ _ a b same closed begins (λ s x f. f x) in
     now_both _ _ _ a d same' begun finds (λ s x f. f x)

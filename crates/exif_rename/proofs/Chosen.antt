@@ -1,7 +1,7 @@
 -- Why the path that is found is the first that was not given.
 use Rattle.std.proofs.Common.{◌≡◌, ℕ, zero, suc, ◌+◌, ◌-◌, ◌<◌, ◌≤◌, List, ◌++◌, Bool, true, false, Option, Some, None, ap, refl, subst, ◌∙◌, arith}
 use Rattle.exif_rename.specs.Unused.{unused, unused_from}
-use Rattle.exif_rename.specs.Wishes.{candidate}
+use Rattle.exif_rename.specs.RenameRequests.{candidate}
 
 -- what is found from a number on is what is found at all
 abbrev pub UnusedFrom : (List ℕ → Bool) → List ℕ → List ℕ → ℕ → Type 0

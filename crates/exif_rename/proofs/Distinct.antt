@@ -5,7 +5,7 @@ use Rattle.std.specs.Str.{bytes_eq}
 use Rattle.exif_files.specs.Each.{is_among}
 use Rattle.exif_rename.specs.Apart.{AreToFree, DifferAfter, all_moves, paths_by}
 use Rattle.exif_rename.specs.Planned.{can_have, chosen, fit, fit_from, fits, kept_or, own, planned_after, with_number, with_paths}
-use Rattle.exif_rename.specs.Wishes.{File, Wanted, candidate, moves_by, moves_in, path_of}
+use Rattle.exif_rename.specs.RenameRequests.{File, Wanted, candidate, moves_by, moves_in, path_of}
 
 both : (a b : Bool) → (a && b) ≡ true → (a ≡ true) × (b ≡ true)
 both true b h = (refl, h)
@@ -30,7 +30,7 @@ found_fits free given wanted (suc tries) number found h =
     ] in
     f (fits free given (candidate wanted.base number) wanted.files) refl h
 
--- so is the one that a wish gets
+-- so is the one that a request gets
 chosen_fits : (free : List ℕ → Bool) (given : List (List ℕ)) (wanted : Wanted) (number : ℕ) → chosen free given wanted ≡ Some number
     → fits free given (candidate wanted.base number) wanted.files ≡ true
 chosen_fits free given wanted number h = kept (own wanted) h
@@ -44,7 +44,7 @@ chosen_fits free given wanted number h = kept (own wanted) h
     kept None e = found_fits free given wanted 100000 0 number e
     kept (Some had) e = whether had (fits free given (candidate wanted.base had) wanted.files) refl e
 
--- what a plan of a wish and others says of them
+-- what a plan of a request and others says of them
 pub record Parts (free : List ℕ → Bool) (given : List (List ℕ)) (wanted : Wanted) (rest : List Wanted) (numbers : List ℕ) : Type 0 where
   pub number : ℕ
   pub others : List ℕ
@@ -77,7 +77,7 @@ differ_in free name (file ∷ files) given others h after =
     let can = both (not (is_among (path_of name file) given)) (bytes_eq (path_of name file) file.old || free (path_of name file)) now.0 in
     (not_true (is_among (path_of name file) given) can.0, differ_in free name files (path_of name file ∷ given) others now.1 after)
 
-pub differ : (free : List ℕ → Bool) (given : List (List ℕ)) (wishes : List Wanted) (numbers : List ℕ) → planned_after free given wishes ≡ Ok numbers → DifferAfter given (paths_by wishes numbers)
+pub differ : (free : List ℕ → Bool) (given : List (List ℕ)) (requests : List Wanted) (numbers : List ℕ) → planned_after free given requests ≡ Ok numbers → DifferAfter given (paths_by requests numbers)
 differ free given [] numbers h = tt
 differ free given (wanted ∷ rest) [] h = let p = parts free given wanted rest [] h in let none = p.are in cc
 differ free given (wanted ∷ rest) (number ∷ numbers) h =
@@ -105,7 +105,7 @@ free_in_moves free name (file ∷ files) given h =
     let can = both (not (is_among (path_of name file) given)) (bytes_eq (path_of name file) file.old || free (path_of name file)) now.0 in
     move_free free (path_of name file) file.old (bytes_eq (path_of name file) file.old) (moves_in name files) refl can.1 (free_in_moves free name files (path_of name file ∷ given) now.1)
 
-pub to_free : (free : List ℕ → Bool) (given : List (List ℕ)) (wishes : List Wanted) (numbers : List ℕ) → planned_after free given wishes ≡ Ok numbers → AreToFree free (all_moves wishes numbers)
+pub to_free : (free : List ℕ → Bool) (given : List (List ℕ)) (requests : List Wanted) (numbers : List ℕ) → planned_after free given requests ≡ Ok numbers → AreToFree free (all_moves requests numbers)
 to_free free given [] numbers h = tt
 to_free free given (wanted ∷ rest) [] h = tt
 to_free free given (wanted ∷ rest) (number ∷ numbers) h =
@@ -117,7 +117,7 @@ to_free free given (wanted ∷ rest) (number ∷ numbers) h =
     (all_append free (moves_by wanted p.number) (all_moves rest p.others) (free_in_moves free (candidate wanted.base p.number) wanted.files given p.fit)
     (to_free free (with_paths (candidate wanted.base p.number) wanted.files given) rest p.others p.after)))
 
-pub as_many : (free : List ℕ → Bool) (given : List (List ℕ)) (wishes : List Wanted) (numbers : List ℕ) → planned_after free given wishes ≡ Ok numbers → length numbers ≡ length wishes
+pub as_many : (free : List ℕ → Bool) (given : List (List ℕ)) (requests : List Wanted) (numbers : List ℕ) → planned_after free given requests ≡ Ok numbers → length numbers ≡ length requests
 as_many free given [] numbers h = let none : numbers ≡ [] = cc in ap length none
 as_many free given (wanted ∷ rest) numbers h =
     let p = parts free given wanted rest numbers h in

@@ -1,4 +1,4 @@
--- The number by which the files of a wish have their paths already.
+-- The number by which the files of a request have their paths already.
 use Rattle.std.proofs.Common.{◌≡◌, ◌≢◌, ◌⊎◌, ℕ, zero, suc, ◌+◌, ◌≤◌, ◌<◌, List, [], ◌∷◌, ◌++◌, append_assoc, length, map, take, Bool, true, false, ◌&&◌, Option, Some, None, ap, sym, refl, subst, ◌∙◌, inl, inr, arith}
 use Rattle.std.specs.Prelude.{if◌then◌else◌, codes, ◌==◌}
 use Rattle.std.specs.Fmt.{decimal}
@@ -8,15 +8,15 @@ use Rattle.std.proofs.lemmas.Slice.Eq.{bytes_eq-Decides}
 use Rattle.exif_files.specs.States.{State, Now}
 use Rattle.exif_rename.specs.Planned.{all_own, chosen, fit, fits, free_in, has_base, kept_or, own, own_from}
 use Rattle.exif_rename.specs.Starts.{HasOwn}
-use Rattle.exif_rename.specs.Wishes.{File, Wanted, candidate, file_of, path_of, wanted_of}
-use Rattle.exif_rename.specs.declared.wish.WishFile.{WishFile}
-use Rattle.exif_rename.specs.declared.wish.Wish.{Wish}
+use Rattle.exif_rename.specs.RenameRequests.{File, Wanted, candidate, file_of, path_of, wanted_of}
+use Rattle.exif_rename.specs.declared.request.RequestFile.{RequestFile}
+use Rattle.exif_rename.specs.declared.request.RenameRequest.{RenameRequest}
 use Rattle.exif_rename.proofs.Plans.{now_map, now_both}
 use Rattle.exif_rename.proofs.Searches.{Begins, Found}
 
--- the number that a wish gets, once it is known from where a search may begin
-abbrev pub Chosen : List State → List (List ℕ) → (List ℕ → Bool) → Wish → ℕ → Option ℕ → Type 0
-Chosen a names is_given wish start found = Now a (λ s. Begins s is_given wish start → chosen (free_in s) names (wanted_of wish) ≡ found)
+-- the number that a request gets, once it is known from where a search may begin
+abbrev pub Chosen : List State → List (List ℕ) → (List ℕ → Bool) → RenameRequest → ℕ → Option ℕ → Type 0
+Chosen a names is_given request start found = Now a (λ s. Begins s is_given request start → chosen (free_in s) names (wanted_of request) ≡ found)
 
 -- ---- the search for it
 
@@ -126,32 +126,32 @@ not_all_own base (file ∷ files) had number has e off =
       | inr ne ↦ inr (λ e. ne (omega (arith, e)))
     ]
 
-pub no_files : (base : List ℕ) (files : List WishFile) → slice_get files 0 ≡ None → own (wanting base (map file_of files)) ≡ None
+pub no_files : (base : List ℕ) (files : List RequestFile) → slice_get files 0 ≡ None → own (wanting base (map file_of files)) ≡ None
 no_files base [] e = refl
 no_files base (file ∷ files) e = cc
 
-pub some_files : (files : List WishFile) (first : WishFile) → slice_get files 0 ≡ Some first → map file_of files ≡ [] → ⊥
+pub some_files : (files : List RequestFile) (first : RequestFile) → slice_get files 0 ≡ Some first → map file_of files ≡ [] → ⊥
 some_files [] first e none = cc
 some_files (file ∷ files) first e none = cc
 
--- ---- the number that a wish gets
+-- ---- the number that a request gets
 
-pub kept_number : (a b : List State) (names : List (List ℕ)) (is_given : List ℕ → Bool) (wish : Wish) (start number : ℕ) (had : Option ℕ) (answer : Bool) → b ≡ a → own (wanted_of wish) ≡ had → had ≡ Some number → answer ≡ true
-    → Now b (λ s. fits (free_in s) names (candidate (wanted_of wish).base number) (wanted_of wish).files ≡ answer) → Chosen a names is_given wish start (Some number)
-kept_number a b names is_given wish start number had answer same is some on_ fit_now =
-    let P : List State → Type 0 = λ xs. Now xs (λ s. fits (free_in s) names (candidate (wanted_of wish).base number) (wanted_of wish).files ≡ answer) in
+pub kept_number : (a b : List State) (names : List (List ℕ)) (is_given : List ℕ → Bool) (request : RenameRequest) (start number : ℕ) (had : Option ℕ) (answer : Bool) → b ≡ a → own (wanted_of request) ≡ had → had ≡ Some number → answer ≡ true
+    → Now b (λ s. fits (free_in s) names (candidate (wanted_of request).base number) (wanted_of request).files ≡ answer) → Chosen a names is_given request start (Some number)
+kept_number a b names is_given request start number had answer same is some on_ fit_now =
+    let P : List State → Type 0 = λ xs. Now xs (λ s. fits (free_in s) names (candidate (wanted_of request).base number) (wanted_of request).files ≡ answer) in
     now_map _ _ a (subst P same fit_now) (λ s fitting begin.
-    ap (kept_or (free_in s) names (wanted_of wish)) (is ∙ some) ∙ ap (λ (b : Bool). if b then Some number else fit (free_in s) names (wanted_of wish)) (fitting ∙ on_))
+    ap (kept_or (free_in s) names (wanted_of request)) (is ∙ some) ∙ ap (λ (b : Bool). if b then Some number else fit (free_in s) names (wanted_of request)) (fitting ∙ on_))
 
-pub other_number : (a b c : List State) (names : List (List ℕ)) (is_given : List ℕ → Bool) (wish : Wish) (start number : ℕ) (had found : Option ℕ) (answer : Bool) → b ≡ a → c ≡ a → own (wanted_of wish) ≡ had → had ≡ Some number
-    → answer ≡ false → Now b (λ s. fits (free_in s) names (candidate (wanted_of wish).base number) (wanted_of wish).files ≡ answer) → Found c names is_given wish start found → Chosen a names is_given wish start found
-other_number a b c names is_given wish start number had found answer same same' is some off fit_now finds =
-    let P : List State → Type 0 = λ xs. Now xs (λ s. fits (free_in s) names (candidate (wanted_of wish).base number) (wanted_of wish).files ≡ answer) in
+pub other_number : (a b c : List State) (names : List (List ℕ)) (is_given : List ℕ → Bool) (request : RenameRequest) (start number : ℕ) (had found : Option ℕ) (answer : Bool) → b ≡ a → c ≡ a → own (wanted_of request) ≡ had → had ≡ Some number
+    → answer ≡ false → Now b (λ s. fits (free_in s) names (candidate (wanted_of request).base number) (wanted_of request).files ≡ answer) → Found c names is_given request start found → Chosen a names is_given request start found
+other_number a b c names is_given request start number had found answer same same' is some off fit_now finds =
+    let P : List State → Type 0 = λ xs. Now xs (λ s. fits (free_in s) names (candidate (wanted_of request).base number) (wanted_of request).files ≡ answer) in
     now_both _ _ _ a c same' (subst P same fit_now) finds (λ s fitting f begin.
-    ap (kept_or (free_in s) names (wanted_of wish)) (is ∙ some) ∙ ap (λ (b : Bool). if b then Some number else fit (free_in s) names (wanted_of wish)) (fitting ∙ off) ∙ f begin)
+    ap (kept_or (free_in s) names (wanted_of request)) (is ∙ some) ∙ ap (λ (b : Bool). if b then Some number else fit (free_in s) names (wanted_of request)) (fitting ∙ off) ∙ f begin)
 
-pub no_number : (a c : List State) (names : List (List ℕ)) (is_given : List ℕ → Bool) (wish : Wish) (start : ℕ) (had found : Option ℕ) → c ≡ a → own (wanted_of wish) ≡ had → had ≡ None
-    → Found c names is_given wish start found → Chosen a names is_given wish start found
-no_number a c names is_given wish start had found same is none finds =
-    let P : List State → Type 0 = λ xs. Found xs names is_given wish start found in
-    now_map _ _ a (subst P same finds) (λ s f begin. ap (kept_or (free_in s) names (wanted_of wish)) (is ∙ none) ∙ f begin)
+pub no_number : (a c : List State) (names : List (List ℕ)) (is_given : List ℕ → Bool) (request : RenameRequest) (start : ℕ) (had found : Option ℕ) → c ≡ a → own (wanted_of request) ≡ had → had ≡ None
+    → Found c names is_given request start found → Chosen a names is_given request start found
+no_number a c names is_given request start had found same is none finds =
+    let P : List State → Type 0 = λ xs. Found xs names is_given request start found in
+    now_map _ _ a (subst P same finds) (λ s f begin. ap (kept_or (free_in s) names (wanted_of request)) (is ∙ none) ∙ f begin)

@@ -4,7 +4,7 @@ use Rattle.std.proofs.lemmas.List.{append-nil, append_cancel_left, append_cancel
 use Rattle.std.specs.Char.{encode_utf8}
 use Rattle.std.specs.Prelude.{◌==◌, codes}
 use Rattle.std.specs.Fmt.{decimal}
-use Rattle.exif_rename.specs.Wishes.{candidate}
+use Rattle.exif_rename.specs.RenameRequests.{candidate}
 
 underscore : codes "_" ≡ encode_utf8 95
 unfolding lib.Utf8.encode

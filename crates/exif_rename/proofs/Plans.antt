@@ -1,4 +1,4 @@
--- How a plan goes on from file to file and from wish to wish.
+-- How a plan goes on from file to file and from request to request.
 use Rattle.std.proofs.Common.{◌≡◌, ℕ, ◌+◌, ◌<◌, ◌≤◌, List, [], ◌∷◌, ◌++◌, Bool, true, false, not, ◌&&◌, ◌||◌, cond, Option, Some, None, Result, Ok, Err, append_assoc, ap, sym, refl, subst, ◌∙◌, length, get_or, take, drop, map, arith}
 use Rattle.std.proofs.lemmas.List.{take_more, drop_more, drop_all, get_or-map, length-map, length-append}
 use Rattle.std.specs.Str.{bytes_eq}
@@ -6,9 +6,9 @@ use Rattle.std.specs.String.{string_bytes}
 use Rattle.exif_files.specs.Each.{is_among}
 use Rattle.exif_files.specs.States.{State, Now}
 use Rattle.exif_rename.specs.Planned.{can_have, chosen, fits, free_in, planned, planned_after, with_number, with_paths}
-use Rattle.exif_rename.specs.Wishes.{File, Wanted, candidate, file_of, path_of, wanted_of}
-use Rattle.exif_rename.specs.declared.wish.Wish.{Wish}
-use Rattle.exif_rename.specs.declared.wish.WishFile.{WishFile}
+use Rattle.exif_rename.specs.RenameRequests.{File, Wanted, candidate, file_of, path_of, wanted_of}
+use Rattle.exif_rename.specs.declared.request.RenameRequest.{RenameRequest}
+use Rattle.exif_rename.specs.declared.request.RequestFile.{RequestFile}
 
 -- what is known of the last state, from two facts of it
 pub now_both : (P Q R : State → Type 0) (a b : List State) → b ≡ a → Now a P → Now b Q → ((s : State) → P s → Q s → R s) → Now a R
@@ -42,7 +42,7 @@ cond_or true b = refl
 cond_or false b = refl
 
 -- one more path was given
-pub give_next : (name : List ℕ) (files : List WishFile) (i : ℕ) (file : WishFile) (path : List ℕ) (names : List (List ℕ)) (q : List ℕ) (was new : Bool)
+pub give_next : (name : List ℕ) (files : List RequestFile) (i : ℕ) (file : RequestFile) (path : List ℕ) (names : List (List ℕ)) (q : List ℕ) (was new : Bool)
     → i < length files → file ≡ get_or files i file → path ≡ name ++ string_bytes file.ending
     → was ≡ is_among q (with_paths name (take i (map file_of files)) names) → new ≡ cond (bytes_eq path q) true was
     → new ≡ is_among q (with_paths name (take (i + 1) (map file_of files)) names)
@@ -72,8 +72,8 @@ map_append : {X Y : Type 0} (f : X → Y) (xs ys : List X) → map f (xs ++ ys) 
 map_append f [] ys = refl
 map_append f (x ∷ xs) ys = ap (λ rest. f x ∷ rest) (map_append f xs ys)
 
--- one more path of the wish is among those that no other file can have
-pub among_next : {X : Type 0} (text : X → List ℕ) (name : List ℕ) (files : List WishFile) (i : ℕ) (file : WishFile) (path : X) (paths paths' : List X) (names : List (List ℕ)) (q : List ℕ)
+-- one more path of the request is among those that no other file can have
+pub among_next : {X : Type 0} (text : X → List ℕ) (name : List ℕ) (files : List RequestFile) (i : ℕ) (file : RequestFile) (path : X) (paths paths' : List X) (names : List (List ℕ)) (q : List ℕ)
     → i < length files → file ≡ get_or files i file → text path ≡ name ++ string_bytes file.ending → paths' ≡ paths ++ path ∷ []
     → is_among q (with_paths name (take i (map file_of files)) names) ≡ (is_among q names || is_among q (map text paths))
     → is_among q (with_paths name (take (i + 1) (map file_of files)) names) ≡ (is_among q names || is_among q (map text paths'))
@@ -87,7 +87,7 @@ among_next text name files i file path paths paths' names q h is e more was =
     ∙ ap (λ (b : Bool). is_among q names || b) (sym all)
 
 -- whether all the files fit is whether this one does and the others do
-fits_next : (free : List ℕ → Bool) (name : List ℕ) (files : List WishFile) (i : ℕ) (file : WishFile) (path old : List ℕ) (names : List (List ℕ)) (among answer all : Bool)
+fits_next : (free : List ℕ → Bool) (name : List ℕ) (files : List RequestFile) (i : ℕ) (file : RequestFile) (path old : List ℕ) (names : List (List ℕ)) (among answer all : Bool)
     → i < length files → file ≡ get_or files i file → path ≡ name ++ string_bytes file.ending → old ≡ string_bytes file.old
     → is_among path (with_paths name (take i (map file_of files)) names) ≡ among
     → answer ≡ (not among && (bytes_eq path old || free path))
@@ -105,8 +105,8 @@ fits_next free name files i file path old names among answer all h is e old_is a
     ∙ ap (λ (g : List (List ℕ)). answer && fits free g name rest)
     (sym (ap (λ (fs : List File). with_paths name fs names) next.0 ∙ with_paths_more name front (file_of file) names))
 
--- how far the files of a wish fit
-abbrev pub FitsFrom : List State → List (List ℕ) → List ℕ → List WishFile → ℕ → Type 0
+-- how far the files of a request fit
+abbrev pub FitsFrom : List State → List (List ℕ) → List ℕ → List RequestFile → ℕ → Type 0
 FitsFrom a names name files i = Now a (λ s. fits (free_in s) names name (map file_of files)
     ≡ fits (free_in s) (with_paths name (take i (map file_of files)) names) name (drop i (map file_of files)))
 
@@ -114,7 +114,7 @@ FitsFrom a names name files i = Now a (λ s. fits (free_in s) names name (map fi
 abbrev pub Answered : List State → Bool → List ℕ → List (List ℕ) → List ℕ → Bool → Type 0
 Answered b contains path paths old answer = Now b (λ s. answer ≡ (not (contains || is_among path paths) && (bytes_eq path old || free_in s path)))
 
-fits_now : (a b : List State) (name : List ℕ) (files : List WishFile) (i : ℕ) (file : WishFile) (path old : List ℕ) (names paths paths' : List (List ℕ)) (contains answer : Bool)
+fits_now : (a b : List State) (name : List ℕ) (files : List RequestFile) (i : ℕ) (file : RequestFile) (path old : List ℕ) (names paths paths' : List (List ℕ)) (contains answer : Bool)
     → i < length files → file ≡ get_or files i file → path ≡ name ++ string_bytes file.ending → old ≡ string_bytes file.old → paths' ≡ paths
     → contains ≡ is_among path names
     → is_among path (with_paths name (take i (map file_of files)) names) ≡ (is_among path names || is_among path paths)
@@ -127,7 +127,7 @@ fits_now a b name files i file path old names paths paths' contains answer h is 
     (among_is ∙ ap (λ (c : Bool). c || is_among path paths) (sym contains_is) ∙ ap (λ ps. contains || is_among path ps) (sym slice)) own rest)
 
 -- a file does not fit
-pub fits_not : (a b : List State) (name : List ℕ) (files : List WishFile) (i : ℕ) (file : WishFile) (path old : List ℕ) (names paths paths' : List (List ℕ)) (contains answer : Bool)
+pub fits_not : (a b : List State) (name : List ℕ) (files : List RequestFile) (i : ℕ) (file : RequestFile) (path old : List ℕ) (names paths paths' : List (List ℕ)) (contains answer : Bool)
     → i < length files → file ≡ get_or files i file → path ≡ name ++ string_bytes file.ending → old ≡ string_bytes file.old → paths' ≡ paths
     → contains ≡ is_among path names
     → is_among path (with_paths name (take i (map file_of files)) names) ≡ (is_among path names || is_among path paths)
@@ -138,7 +138,7 @@ fits_not a b name files i file path old names paths paths' contains answer h is 
     (λ s all. all ∙ ap (λ (b : Bool). b && fits (free_in s) (with_paths name (take (i + 1) (map file_of files)) names) name (drop (i + 1) (map file_of files))) off)
 
 -- a file fits
-pub fits_more : (a b : List State) (name : List ℕ) (files : List WishFile) (i : ℕ) (file : WishFile) (path old : List ℕ) (names paths paths' : List (List ℕ)) (contains answer : Bool)
+pub fits_more : (a b : List State) (name : List ℕ) (files : List RequestFile) (i : ℕ) (file : RequestFile) (path old : List ℕ) (names paths paths' : List (List ℕ)) (contains answer : Bool)
     → i < length files → file ≡ get_or files i file → path ≡ name ++ string_bytes file.ending → old ≡ string_bytes file.old → paths' ≡ paths
     → contains ≡ is_among path names
     → is_among path (with_paths name (take i (map file_of files)) names) ≡ (is_among path names || is_among path paths)
@@ -149,13 +149,13 @@ fits_more a b name files i file path old names paths paths' contains answer h is
     (λ s all. all ∙ ap (λ (b : Bool). b && fits (free_in s) (with_paths name (take (i + 1) (map file_of files)) names) name (drop (i + 1) (map file_of files))) on_)
 
 -- all the files fit
-pub fits_all : (a : List State) (names : List (List ℕ)) (name : List ℕ) (files : List WishFile) (i : ℕ) → length files ≤ i → FitsFrom a names name files i
+pub fits_all : (a : List State) (names : List (List ℕ)) (name : List ℕ) (files : List RequestFile) (i : ℕ) → length files ≤ i → FitsFrom a names name files i
     → Now a (λ s. fits (free_in s) names name (map file_of files) ≡ true)
 fits_all a names name files i h rest =
     now_map _ _ a rest (λ s all. all ∙ ap (λ fs. fits (free_in s) (with_paths name (take i (map file_of files)) names) name fs)
     (drop_all i (map file_of files) (omega (arith, length-map files file_of))))
 
--- numbers in front of others; of a wish without one, how many are before it
+-- numbers in front of others; of a request without one, how many are before it
 abbrev pub with_numbers : List ℕ → Result (List ℕ) ℕ → Result (List ℕ) ℕ
 with_numbers front (Ok numbers) = Ok (front ++ numbers)
 with_numbers front (Err before) = Err (length front + before)
@@ -167,13 +167,13 @@ with_numbers_more front number (Err before) =
     ap (λ n. Err n) e
 
 -- how far a plan is made, where these paths were given
-abbrev pub PlannedFrom : List State → List Wish → List (List ℕ) → List ℕ → ℕ → Type 0
-PlannedFrom a wishes names numbers i = Now a (λ s. planned (free_in s) (map wanted_of wishes)
-    ≡ with_numbers numbers (planned_after (free_in s) names (drop i (map wanted_of wishes))))
+abbrev pub PlannedFrom : List State → List RenameRequest → List (List ℕ) → List ℕ → ℕ → Type 0
+PlannedFrom a requests names numbers i = Now a (λ s. planned (free_in s) (map wanted_of requests)
+    ≡ with_numbers numbers (planned_after (free_in s) names (drop i (map wanted_of requests))))
 
--- what is answered of a wish
-abbrev pub FitIs : List State → List (List ℕ) → Wish → Option ℕ → Type 0
-FitIs b names wish found = Now b (λ s. chosen (free_in s) names (wanted_of wish) ≡ found)
+-- what is answered of a request
+abbrev pub FitIs : List State → List (List ℕ) → RenameRequest → Option ℕ → Type 0
+FitIs b names request found = Now b (λ s. chosen (free_in s) names (wanted_of request) ≡ found)
 
 after_some : (free : List ℕ → Bool) (names : List (List ℕ)) (wanted : Wanted) (rest : List Wanted) (number : ℕ) → chosen free names wanted ≡ Some number
     → planned_after free names (wanted ∷ rest) ≡ with_number number (planned_after free (with_paths (candidate wanted.base number) wanted.files names) rest)
@@ -191,26 +191,26 @@ after_none free names wanted rest is =
       | Some number ↦ with_number number (planned_after free (with_paths (candidate wanted.base number) wanted.files names) rest)
     ]) is
 
--- a wish got a number
-pub planned_more : (a b : List State) (wishes : List Wish) (names : List (List ℕ)) (numbers numbers' : List ℕ) (i : ℕ) (wish : Wish) (number : ℕ) → i < length wishes → wish ≡ get_or wishes i wish
-    → numbers' ≡ numbers ++ number ∷ [] → b ≡ a → PlannedFrom a wishes names numbers i → FitIs b names wish (Some number)
-    → PlannedFrom a wishes (with_paths (candidate (wanted_of wish).base number) (wanted_of wish).files names) numbers' (i + 1)
-planned_more a b wishes names numbers numbers' i wish number h is more same from found =
-    let next = (next_of wanted_of wishes i wish h is).1 in
+-- a request got a number
+pub planned_more : (a b : List State) (requests : List RenameRequest) (names : List (List ℕ)) (numbers numbers' : List ℕ) (i : ℕ) (request : RenameRequest) (number : ℕ) → i < length requests → request ≡ get_or requests i request
+    → numbers' ≡ numbers ++ number ∷ [] → b ≡ a → PlannedFrom a requests names numbers i → FitIs b names request (Some number)
+    → PlannedFrom a requests (with_paths (candidate (wanted_of request).base number) (wanted_of request).files names) numbers' (i + 1)
+planned_more a b requests names numbers numbers' i request number h is more same from found =
+    let next = (next_of wanted_of requests i request h is).1 in
     now_both _ _ _ a b same from found (λ s x y.
-    let rest = planned_after (free_in s) (with_paths (candidate (wanted_of wish).base number) (wanted_of wish).files names) (drop (i + 1) (map wanted_of wishes)) in
+    let rest = planned_after (free_in s) (with_paths (candidate (wanted_of request).base number) (wanted_of request).files names) (drop (i + 1) (map wanted_of requests)) in
     x ∙ ap (λ ws. with_numbers numbers (planned_after (free_in s) names ws)) next
-    ∙ ap (with_numbers numbers) (after_some (free_in s) names (wanted_of wish) (drop (i + 1) (map wanted_of wishes)) number y)
+    ∙ ap (with_numbers numbers) (after_some (free_in s) names (wanted_of request) (drop (i + 1) (map wanted_of requests)) number y)
     ∙ with_numbers_more numbers number rest ∙ ap (λ ns. with_numbers ns rest) (sym more))
 
--- a wish got none
-pub planned_crowded : (a b : List State) (wishes : List Wish) (names : List (List ℕ)) (numbers : List ℕ) (i : ℕ) (wish : Wish) → i < length wishes → wish ≡ get_or wishes i wish
-    → length numbers ≡ i → b ≡ a → PlannedFrom a wishes names numbers i → FitIs b names wish None
-    → Now a (λ s. planned (free_in s) (map wanted_of wishes) ≡ Err i)
-planned_crowded a b wishes names numbers i wish h is count same from found =
-    let next = (next_of wanted_of wishes i wish h is).1 in
+-- a request got none
+pub planned_crowded : (a b : List State) (requests : List RenameRequest) (names : List (List ℕ)) (numbers : List ℕ) (i : ℕ) (request : RenameRequest) → i < length requests → request ≡ get_or requests i request
+    → length numbers ≡ i → b ≡ a → PlannedFrom a requests names numbers i → FitIs b names request None
+    → Now a (λ s. planned (free_in s) (map wanted_of requests) ≡ Err i)
+planned_crowded a b requests names numbers i request h is count same from found =
+    let next = (next_of wanted_of requests i request h is).1 in
     let e : length numbers + 0 ≡ i = omega arith in
     now_both _ _ _ a b same from found (λ s x y.
     x ∙ ap (λ ws. with_numbers numbers (planned_after (free_in s) names ws)) next
-    ∙ ap (with_numbers numbers) (after_none (free_in s) names (wanted_of wish) (drop (i + 1) (map wanted_of wishes)) y)
+    ∙ ap (with_numbers numbers) (after_none (free_in s) names (wanted_of request) (drop (i + 1) (map wanted_of requests)) y)
     ∙ ap (λ n. Err n) e)

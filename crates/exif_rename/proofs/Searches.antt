@@ -1,4 +1,4 @@
--- Why the search for a wish may begin at a higher number.
+-- Why the search for a request may begin at a higher number.
 use Rattle.std.proofs.Common.{◌≡◌, ℕ, zero, suc, ◌+◌, ◌-◌, ◌^◌, ◌<◌, ◌≤◌, List, [], ◌∷◌, ◌++◌, Bool, true, false, not, ◌&&◌, ◌||◌, Option, Some, None, inl, inr, ap, sym, refl, subst, ◌∙◌, arith}
 use Rattle.std.proofs.lemmas.Bool.{false_from_ne_true}
 use Rattle.std.proofs.lemmas.Bool.Decides.{eqb_tells}
@@ -9,8 +9,8 @@ use Rattle.exif_files.specs.Each.{is_among}
 use Rattle.exif_files.specs.States.{State, Now}
 use Rattle.exif_rename.specs.Planned.{fit, fit_from, fits, free_in}
 use Rattle.exif_rename.specs.Starts.{HasOwn, IsOwn, IsStart, NoneOpenFirst, is_open}
-use Rattle.exif_rename.specs.Wishes.{File, Wanted, candidate, path_of, wanted_of}
-use Rattle.exif_rename.specs.declared.wish.Wish.{Wish}
+use Rattle.exif_rename.specs.RenameRequests.{File, Wanted, candidate, path_of, wanted_of}
+use Rattle.exif_rename.specs.declared.request.RenameRequest.{RenameRequest}
 use Rattle.exif_rename.proofs.Plans.{now_all, now_both, now_map}
 
 -- a candidate that all the files can have is the first
@@ -69,82 +69,82 @@ lower_not free is_given names base (file ∷ files) own start number same begin 
     not_fit free is_given names base file files number (same (candidate base number ++ file.ending)) (begin number lt) (λ e. other (has number small e))
 
 -- what is answered of a candidate
-abbrev pub FitsIs : List State → List (List ℕ) → Wish → ℕ → Bool → Type 0
-FitsIs b names wish number answer = Now b (λ s. fits (free_in s) names (candidate (wanted_of wish).base number) (wanted_of wish).files ≡ answer)
+abbrev pub FitsIs : List State → List (List ℕ) → RenameRequest → ℕ → Bool → Type 0
+FitsIs b names request number answer = Now b (λ s. fits (free_in s) names (candidate (wanted_of request).base number) (wanted_of request).files ≡ answer)
 
 -- where a search may begin
-abbrev pub Begins : State → (List ℕ → Bool) → Wish → ℕ → Type 0
-Begins s is_given wish start = IsStart (free_in s) is_given (wanted_of wish) start
+abbrev pub Begins : State → (List ℕ → Bool) → RenameRequest → ℕ → Type 0
+Begins s is_given request start = IsStart (free_in s) is_given (wanted_of request) start
 
 -- the candidates before a number were skipped
-abbrev pub FitFrom : List State → List (List ℕ) → (List ℕ → Bool) → Wish → ℕ → ℕ → Type 0
-FitFrom a names is_given wish start number = Now a (λ s. Begins s is_given wish start
-    → fit (free_in s) names (wanted_of wish) ≡ fit_from (free_in s) names (wanted_of wish) (100000 - number) number)
+abbrev pub FitFrom : List State → List (List ℕ) → (List ℕ → Bool) → RenameRequest → ℕ → ℕ → Type 0
+FitFrom a names is_given request start number = Now a (λ s. Begins s is_given request start
+    → fit (free_in s) names (wanted_of request) ≡ fit_from (free_in s) names (wanted_of request) (100000 - number) number)
 
 -- what a search found
-abbrev pub Found : List State → List (List ℕ) → (List ℕ → Bool) → Wish → ℕ → Option ℕ → Type 0
-Found a names is_given wish start found = Now a (λ s. Begins s is_given wish start → fit (free_in s) names (wanted_of wish) ≡ found)
+abbrev pub Found : List State → List (List ℕ) → (List ℕ → Bool) → RenameRequest → ℕ → Option ℕ → Type 0
+Found a names is_given request start found = Now a (λ s. Begins s is_given request start → fit (free_in s) names (wanted_of request) ≡ found)
 
 -- what a search found, or else finds from its start on
-abbrev pub FoundOr : List State → List (List ℕ) → (List ℕ → Bool) → Wish → ℕ → Option ℕ → Type 0
-FoundOr a names is_given wish start own = Now a (λ s. Begins s is_given wish start
-    → fit (free_in s) names (wanted_of wish) ≡ option_or own (fit_from (free_in s) names (wanted_of wish) (100000 - start) start))
+abbrev pub FoundOr : List State → List (List ℕ) → (List ℕ → Bool) → RenameRequest → ℕ → Option ℕ → Type 0
+FoundOr a names is_given request start own = Now a (λ s. Begins s is_given request start
+    → fit (free_in s) names (wanted_of request) ≡ option_or own (fit_from (free_in s) names (wanted_of request) (100000 - start) start))
 
 -- the first file has none of the lower numbers
-pub own_none : (a : List State) (names : List (List ℕ)) (is_given : List ℕ → Bool) (wish : Wish) (start : ℕ) (own : Option ℕ)
-    → ((q : List ℕ) → is_given q ≡ is_among q names) → IsOwn (wanted_of wish) own → start ≤ 100000 → ((k : ℕ) → k < start → own ≡ Some k → ⊥)
-    → FitFrom a names is_given wish start start
-own_none a names is_given wish start own same has h none =
-    now_all _ a (λ s begin. skipped (free_in s) names (wanted_of wish) 100000 start h
-    (λ k lt. lower_not (free_in s) is_given names (wanted_of wish).base (wanted_of wish).files own start k same begin has h lt (none k lt)))
+pub own_none : (a : List State) (names : List (List ℕ)) (is_given : List ℕ → Bool) (request : RenameRequest) (start : ℕ) (own : Option ℕ)
+    → ((q : List ℕ) → is_given q ≡ is_among q names) → IsOwn (wanted_of request) own → start ≤ 100000 → ((k : ℕ) → k < start → own ≡ Some k → ⊥)
+    → FitFrom a names is_given request start start
+own_none a names is_given request start own same has h none =
+    now_all _ a (λ s begin. skipped (free_in s) names (wanted_of request) 100000 start h
+    (λ k lt. lower_not (free_in s) is_given names (wanted_of request).base (wanted_of request).files own start k same begin has h lt (none k lt)))
 
 -- it has one, by which all fit
-pub own_hit : (a b : List State) (names : List (List ℕ)) (is_given : List ℕ → Bool) (wish : Wish) (start own : ℕ) (answer : Bool)
-    → ((q : List ℕ) → is_given q ≡ is_among q names) → IsOwn (wanted_of wish) (Some own) → start ≤ 100000 → own < start
-    → b ≡ a → FitsIs b names wish own answer → answer ≡ true → Found a names is_given wish start (Some own)
-own_hit a b names is_given wish start own answer same has h lt states is on_ =
+pub own_hit : (a b : List State) (names : List (List ℕ)) (is_given : List ℕ → Bool) (request : RenameRequest) (start own : ℕ) (answer : Bool)
+    → ((q : List ℕ) → is_given q ≡ is_among q names) → IsOwn (wanted_of request) (Some own) → start ≤ 100000 → own < start
+    → b ≡ a → FitsIs b names request own answer → answer ≡ true → Found a names is_given request start (Some own)
+own_hit a b names is_given request start own answer same has h lt states is on_ =
     let within : own ≤ 100000 = omega arith in
     let left : 100000 - own ≡ suc (99999 - own) = omega arith in
-    let Q : List State → Type 0 = λ xs. FitsIs xs names wish own answer in
+    let Q : List State → Type 0 = λ xs. FitsIs xs names request own answer in
     now_map _ _ a (subst Q states is) (λ s y begin.
-    skipped (free_in s) names (wanted_of wish) 100000 own within
+    skipped (free_in s) names (wanted_of request) 100000 own within
     (λ k less. let below : k < start = omega arith in
-    lower_not (free_in s) is_given names (wanted_of wish).base (wanted_of wish).files (Some own) start k same begin has h below
+    lower_not (free_in s) is_given names (wanted_of request).base (wanted_of request).files (Some own) start k same begin has h below
     (λ e. let one : own ≡ k = cc in absurd (omega arith)))
-    ∙ ap (λ t. fit_from (free_in s) names (wanted_of wish) t own) left ∙ hit_at (free_in s) names (wanted_of wish) (99999 - own) own (y ∙ on_))
+    ∙ ap (λ t. fit_from (free_in s) names (wanted_of request) t own) left ∙ hit_at (free_in s) names (wanted_of request) (99999 - own) own (y ∙ on_))
 
 -- it has one, by which not all fit
-pub own_miss : (a b : List State) (names : List (List ℕ)) (is_given : List ℕ → Bool) (wish : Wish) (start own : ℕ) (answer : Bool)
-    → ((q : List ℕ) → is_given q ≡ is_among q names) → IsOwn (wanted_of wish) (Some own) → start ≤ 100000
-    → b ≡ a → FitsIs b names wish own answer → answer ≡ false → FitFrom a names is_given wish start start
-own_miss a b names is_given wish start own answer same has h states is off =
-    let Q : List State → Type 0 = λ xs. FitsIs xs names wish own answer in
+pub own_miss : (a b : List State) (names : List (List ℕ)) (is_given : List ℕ → Bool) (request : RenameRequest) (start own : ℕ) (answer : Bool)
+    → ((q : List ℕ) → is_given q ≡ is_among q names) → IsOwn (wanted_of request) (Some own) → start ≤ 100000
+    → b ≡ a → FitsIs b names request own answer → answer ≡ false → FitFrom a names is_given request start start
+own_miss a b names is_given request start own answer same has h states is off =
+    let Q : List State → Type 0 = λ xs. FitsIs xs names request own answer in
     now_map _ _ a (subst Q states is) (λ s y begin.
-    let misses : ℕ → Type 0 = λ k. fits (free_in s) names (candidate (wanted_of wish).base k) (wanted_of wish).files ≡ false in
-    skipped (free_in s) names (wanted_of wish) 100000 start h
+    let misses : ℕ → Type 0 = λ k. fits (free_in s) names (candidate (wanted_of request).base k) (wanted_of request).files ≡ false in
+    skipped (free_in s) names (wanted_of request) 100000 start h
     (λ k lt. elim (eqb_tells own k) [
       | inl w ↦ subst misses w.1 (y ∙ off)
-      | inr w ↦ lower_not (free_in s) is_given names (wanted_of wish).base (wanted_of wish).files (Some own) start k same begin has h lt (λ e. w.1 (cc))
+      | inr w ↦ lower_not (free_in s) is_given names (wanted_of request).base (wanted_of request).files (Some own) start k same begin has h lt (λ e. w.1 (cc))
     ]))
 
-pub fit_hit : (a b : List State) (names : List (List ℕ)) (is_given : List ℕ → Bool) (wish : Wish) (start number : ℕ) (answer : Bool) → number < 100000
-    → b ≡ a → FitFrom a names is_given wish start number → FitsIs b names wish number answer → answer ≡ true → Found a names is_given wish start (Some number)
-fit_hit a b names is_given wish start number answer h states from is on_ =
+pub fit_hit : (a b : List State) (names : List (List ℕ)) (is_given : List ℕ → Bool) (request : RenameRequest) (start number : ℕ) (answer : Bool) → number < 100000
+    → b ≡ a → FitFrom a names is_given request start number → FitsIs b names request number answer → answer ≡ true → Found a names is_given request start (Some number)
+fit_hit a b names is_given request start number answer h states from is on_ =
     let left : 100000 - number ≡ suc (99999 - number) = omega arith in
     now_both _ _ _ a b states from is (λ s x y begin.
-    x begin ∙ ap (λ t. fit_from (free_in s) names (wanted_of wish) t number) left ∙ hit_at (free_in s) names (wanted_of wish) (99999 - number) number (y ∙ on_))
+    x begin ∙ ap (λ t. fit_from (free_in s) names (wanted_of request) t number) left ∙ hit_at (free_in s) names (wanted_of request) (99999 - number) number (y ∙ on_))
 
-pub fit_miss : (a b : List State) (names : List (List ℕ)) (is_given : List ℕ → Bool) (wish : Wish) (start number : ℕ) (answer : Bool) → number < 100000
-    → b ≡ a → FitFrom a names is_given wish start number → FitsIs b names wish number answer → answer ≡ false → FitFrom a names is_given wish start (number + 1)
-fit_miss a b names is_given wish start number answer h states from is off =
+pub fit_miss : (a b : List State) (names : List (List ℕ)) (is_given : List ℕ → Bool) (request : RenameRequest) (start number : ℕ) (answer : Bool) → number < 100000
+    → b ≡ a → FitFrom a names is_given request start number → FitsIs b names request number answer → answer ≡ false → FitFrom a names is_given request start (number + 1)
+fit_miss a b names is_given request start number answer h states from is off =
     let left : 100000 - number ≡ suc (99999 - number) = omega arith in
     let left' : 99999 - number ≡ 100000 - (number + 1) = omega arith in
     now_both _ _ _ a b states from is (λ s x y begin.
-    x begin ∙ ap (λ t. fit_from (free_in s) names (wanted_of wish) t number) left ∙ miss_at (free_in s) names (wanted_of wish) (99999 - number) number (y ∙ off)
-    ∙ ap (λ t. fit_from (free_in s) names (wanted_of wish) t (number + 1)) left')
+    x begin ∙ ap (λ t. fit_from (free_in s) names (wanted_of request) t number) left ∙ miss_at (free_in s) names (wanted_of request) (99999 - number) number (y ∙ off)
+    ∙ ap (λ t. fit_from (free_in s) names (wanted_of request) t (number + 1)) left')
 
-pub fit_none : (a : List State) (names : List (List ℕ)) (is_given : List ℕ → Bool) (wish : Wish) (start number : ℕ) → 100000 ≤ number → FitFrom a names is_given wish start number
-    → Found a names is_given wish start None
-fit_none a names is_given wish start number h from =
+pub fit_none : (a : List State) (names : List (List ℕ)) (is_given : List ℕ → Bool) (request : RenameRequest) (start number : ℕ) → 100000 ≤ number → FitFrom a names is_given request start number
+    → Found a names is_given request start None
+fit_none a names is_given request start number h from =
     let left : 100000 - number ≡ 0 = omega arith in
-    now_map _ _ a from (λ s x begin. x begin ∙ ap (λ t. fit_from (free_in s) names (wanted_of wish) t number) left ∙ none_at (free_in s) names (wanted_of wish) number)
+    now_map _ _ a from (λ s x begin. x begin ∙ ap (λ t. fit_from (free_in s) names (wanted_of request) t number) left ∙ none_at (free_in s) names (wanted_of request) number)

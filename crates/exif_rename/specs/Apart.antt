@@ -2,16 +2,16 @@
 use Rattle.std.specs.Prelude.{◌≡◌, ⊤, ℕ, List, [], ◌∷◌, ◌++◌, Bool, true, false, map}
 use Rattle.std.specs.List.{AllByRecursion}
 use Rattle.exif_files.specs.Each.{is_among}
-use Rattle.exif_rename.specs.Wishes.{Wanted, candidate, path_of, moves_by}
+use Rattle.exif_rename.specs.RenameRequests.{Wanted, candidate, path_of, moves_by}
 
--- the new paths of all files, by the numbers of their wishes
+-- the new paths of all files, by the numbers of their requests
 abbrev pub paths_by : List Wanted → List ℕ → List (List ℕ)
 paths_by [] numbers = []
 paths_by (wanted ∷ rest) [] = []
 paths_by (wanted ∷ rest) (number ∷ numbers) =
     map (path_of (candidate wanted.base number)) wanted.files ++ paths_by rest numbers
 
--- the moves of all wishes by their numbers, one wish after the other
+-- the moves of all requests by their numbers, one request after the other
 abbrev pub all_moves : List Wanted → List ℕ → List (List ℕ × List ℕ)
 all_moves [] numbers = []
 all_moves (wanted ∷ rest) [] = []

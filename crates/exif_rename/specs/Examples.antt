@@ -16,7 +16,7 @@ use Rattle.exif_rename.specs.Texts.{pattern_text}
 use Rattle.exif_rename.specs.Together.{place, places}
 use Rattle.exif_rename.specs.Undo.{line_of}
 use Rattle.exif_rename.specs.Unused.{unused, unused_from}
-use Rattle.exif_rename.specs.Wishes.{Wanted, moves_by}
+use Rattle.exif_rename.specs.RenameRequests.{Wanted, moves_by}
 use Rattle.exif_rename.specs.declared.naming.Missing.TheVariants as missing
 use Rattle.exif_rename.specs.declared.naming.Taken.{Taken}
 use Rattle.exif_rename.specs.declared.pattern.DatePart.TheVariants.{Year, ShortYear, Month, Day}
@@ -125,7 +125,7 @@ stays : planned (λ n. not (is_among n (codes "x_1.jpg" ∷ []))) (numbered ∷ 
 unfolding own_from digits
 stays = refl
 
--- the name that the first of two equal wishes got is not given again, though nothing has it yet
+-- the name that the first of two equal requests got is not given again, though nothing has it yet
 given_once : planned (λ n. not (is_among n (codes "b.jpg" ∷ []))) (third ∷ third ∷ []) ≡ Ok (0 ∷ 1 ∷ [])
 unfolding fit_from digits
 given_once = refl

@@ -10,7 +10,7 @@ is_failed (Err (Io e)) = true
 is_failed (Err (Crowded index)) = false
 is_failed (Err OutOfMemory) = false
 
--- what holds of the wish that gets no candidate, if that is the error
+-- what holds of the request that gets no candidate, if that is the error
 abbrev pub IfCrowded : PlanError → (ℕ → Type 0) → Type 0
 IfCrowded (Io e) P = ⊤
 IfCrowded (Crowded index) P = P index

@@ -18,4 +18,4 @@ pub mod Together
 pub mod Undo
 pub mod Unused
 pub mod Views
-pub mod Wishes
+pub mod RenameRequests

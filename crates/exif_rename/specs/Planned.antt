@@ -4,7 +4,7 @@ use Rattle.std.specs.Option.{is_none}
 use Rattle.std.specs.Str.{bytes_eq}
 use Rattle.exif_files.specs.Each.{is_among}
 use Rattle.exif_files.specs.States.{State}
-use Rattle.exif_rename.specs.Wishes.{File, Wanted, candidate, path_of}
+use Rattle.exif_rename.specs.RenameRequests.{File, Wanted, candidate, path_of}
 
 -- whether nothing has a name
 abbrev pub free_in : State → List ℕ → Bool
@@ -72,18 +72,18 @@ kept_or free given wanted (Some number) =
     if fits free given (candidate wanted.base number) wanted.files then Some number
     else fit free given wanted
 
--- The number that a wish gets: the one by which all its files have their paths already, so that they
+-- The number that a request gets: the one by which all its files have their paths already, so that they
 -- stay; or else the first of all whose candidate all the files can have.
 abbrev pub chosen : (List ℕ → Bool) → List (List ℕ) → Wanted → Option ℕ
 chosen free given wanted = kept_or free given wanted (own wanted)
 
--- a number in front of others; of a wish without one, how many are before it
+-- a number in front of others; of a request without one, how many are before it
 abbrev pub with_number : ℕ → Result (List ℕ) ℕ → Result (List ℕ) ℕ
 with_number number (Ok numbers) = Ok (number ∷ numbers)
 with_number number (Err before) = Err (before + 1)
 
--- The numbers of the candidates that the files of each wish get, where some paths were given
--- before; or the index of the first wish that gets none.
+-- The numbers of the candidates that the files of each request get, where some paths were given
+-- before; or the index of the first request that gets none.
 abbrev pub planned_after : (List ℕ → Bool) → List (List ℕ) → List Wanted → Result (List ℕ) ℕ
 planned_after free given [] = Ok []
 planned_after free given (wanted ∷ rest) = elim (chosen free given wanted) [
@@ -93,4 +93,4 @@ planned_after free given (wanted ∷ rest) = elim (chosen free given wanted) [
 ]
 
 abbrev pub planned : (List ℕ → Bool) → List Wanted → Result (List ℕ) ℕ
-planned free wishes = planned_after free [] wishes
+planned free requests = planned_after free [] requests

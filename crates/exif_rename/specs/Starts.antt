@@ -1,11 +1,11 @@
--- From which number on the search for a wish begins.
+-- From which number on the search for a request begins.
 use Rattle.std.specs.Prelude.{◌≡◌, ◌<◌, ℕ, ◌^◌, List, [], ◌∷◌, ◌++◌, Bool, false, ◌&&◌, not, Option, Some, ⊤, string_bytes}
 use Rattle.std.specs.BTreeMap.{BTreeMap, get}
 use Rattle.std.specs.Ordering.{ordering_then}
 use Rattle.std.specs.String.{string_cmp}
 use Rattle.std.specs.declared.cmp.Ordering.{Ordering}
 use Rattle.exif_rename.specs.declared.starts.Series.{Series}
-use Rattle.exif_rename.specs.Wishes.{File, Wanted, candidate, path_of}
+use Rattle.exif_rename.specs.RenameRequests.{File, Wanted, candidate, path_of}
 
 -- whether any file can have a path: no file was given it, and nothing has it
 abbrev pub is_open : (List ℕ → Bool) → (List ℕ → Bool) → List ℕ → Bool
@@ -22,7 +22,7 @@ NoneOpenFirst free is_given base [] start = start ≡ 0
 NoneOpenFirst free is_given base (file ∷ files) start =
     NoneOpenBelow free is_given base file.ending start
 
--- where the search for a wish may begin
+-- where the search for a request may begin
 abbrev pub IsStart : (List ℕ → Bool) → (List ℕ → Bool) → Wanted → ℕ → Type 0
 IsStart free is_given wanted start = NoneOpenFirst free is_given wanted.base wanted.files start
 

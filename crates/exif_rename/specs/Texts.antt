@@ -40,5 +40,5 @@ pattern_text error = fault_text error.fault error.at
 -- why there is no plan; the text of the system's own error is not known
 abbrev pub plan_text : PlanError → Option (List ℕ)
 plan_text (plan.Io cause) = None
-plan_text (plan.Crowded wish) = Some (codes "all names with a number up to 99999 are taken")
+plan_text (plan.Crowded request) = Some (codes "all names with a number up to 99999 are taken")
 plan_text plan.OutOfMemory = Some (codes "out of memory")

@@ -1,7 +1,7 @@
 -- The paths of new files that differ from each other.
 use Rattle.std.specs.Prelude.{ℕ, zero, suc, ◌+◌, List, ◌++◌, Bool, true, false, if◌then◌else◌, Option, Some, None}
 use Rattle.std.specs.Str.{bytes_eq}
-use Rattle.exif_rename.specs.Wishes.{candidate}
+use Rattle.exif_rename.specs.RenameRequests.{candidate}
 
 -- the first candidate of a base, with an ending, that was not given, of so many from a number on
 unfoldable pub unused_from : (List ℕ → Bool) → List ℕ → List ℕ → ℕ → ℕ → Option (List ℕ)

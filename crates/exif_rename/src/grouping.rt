@@ -9,7 +9,7 @@ ghost use Rattle.exif_files.specs.Each.{is_among};
 ghost use Rattle.exif_rename.specs.Grouped.{after_byte, ending_of, entry_of, folded, grouped, leaders, owners_of, stem_in, stem_of, stems_of};
 
 use crate::plan::insert;
-use crate::wish::joined;
+use crate::request::joined;
 use std::alloc::{AllocError, Global};
 use std::collections::{BTreeMap, BTreeSet};
 

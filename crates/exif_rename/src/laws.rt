@@ -1,4 +1,4 @@
-//! Laws of plans and names. They hold for all wishes, states and texts, and speak of the
+//! Laws of plans and names. They hold for all requests, states and texts, and speak of the
 //! definitions alone.
 
 ghost use Rattle.std.specs.Prelude.{◌≡◌, ◌≢◌, ◌<◌, ℕ, List, [], Bool, false, Ok, Some, length, slice_index};
@@ -6,24 +6,24 @@ ghost use Rattle.exif_rename.specs.Apart.{AreToFree, DifferAfter, all_moves, pat
 ghost use Rattle.exif_rename.specs.Naming.{safe};
 ghost use Rattle.exif_rename.specs.Planned.{planned};
 ghost use Rattle.exif_rename.specs.Unused.{unused};
-ghost use Rattle.exif_rename.specs.Wishes.{Wanted};
+ghost use Rattle.exif_rename.specs.RenameRequests.{Wanted};
 
 /// No two files get one path.
 pub fn new_paths_differ()
-    ensures { (free : List ℕ → Bool) (wishes : List Wanted) (numbers : List ℕ)
-        → planned free wishes ≡ Ok numbers → DifferAfter [] (paths_by wishes numbers) }
+    ensures { (free : List ℕ → Bool) (requests : List Wanted) (numbers : List ℕ)
+        → planned free requests ≡ Ok numbers → DifferAfter [] (paths_by requests numbers) }
 {}
 
 /// Nothing has the path that a file is moved to: so no move overwrites a file.
 pub fn moves_are_to_free_paths()
-    ensures { (free : List ℕ → Bool) (wishes : List Wanted) (numbers : List ℕ)
-        → planned free wishes ≡ Ok numbers → AreToFree free (all_moves wishes numbers) }
+    ensures { (free : List ℕ → Bool) (requests : List Wanted) (numbers : List ℕ)
+        → planned free requests ≡ Ok numbers → AreToFree free (all_moves requests numbers) }
 {}
 
-/// Each wish gets a number.
-pub fn each_wish_has_a_number()
-    ensures { (free : List ℕ → Bool) (wishes : List Wanted) (numbers : List ℕ)
-        → planned free wishes ≡ Ok numbers → length numbers ≡ length wishes }
+/// Each request gets a number.
+pub fn each_request_has_a_number()
+    ensures { (free : List ℕ → Bool) (requests : List Wanted) (numbers : List ℕ)
+        → planned free requests ≡ Ok numbers → length numbers ≡ length requests }
 {}
 
 /// The path of a new file was given to no other.

@@ -1,4 +1,4 @@
-//! From which number on the search for the new name of a wish begins.
+//! From which number on the search for the new name of a request begins.
 
 ghost use Rattle.std.specs.Prelude.{◌≡◌, ◌≢◌, ◌<◌, ◌≤◌, ◌++◌, Err, IfOk, IfErr, OnOk, string_bytes, true};
 ghost use Rattle.std.specs.BTreeSet.{contains_text};
@@ -7,11 +7,11 @@ ghost use Rattle.exif_files.specs.Steps.{count_after};
 ghost use Rattle.exif_rename.specs.Failures.{is_failed, IfCrowded};
 ghost use Rattle.exif_rename.specs.Planned.{free_in};
 ghost use Rattle.exif_rename.specs.Starts.{AreStarts, IsStart, NoneOpenBelow, is_open};
-ghost use Rattle.exif_rename.specs.Wishes.{candidate, wanted_of};
+ghost use Rattle.exif_rename.specs.RenameRequests.{candidate, wanted_of};
 ghost use Rattle.exif_rename.specs.declared.plan.PlanError.TheVariants.{OutOfMemory};
 
 use crate::plan::{PlanError, TRIES};
-use crate::wish::{Wish, candidate, joined};
+use crate::request::{RenameRequest, candidate, joined};
 use exif_files::FileSystem;
 use std::alloc::Global;
 use std::collections::{BTreeMap, BTreeSet};
@@ -23,19 +23,19 @@ pub(crate) struct Series {
     ending: String,
 }
 
-// The number from which on the search for a wish begins: by a lower one its first file has no path
-// that is open to any file. `starts` has the start that was found last for each series.
+// The number from which on the search for a request begins: by a lower one its first file has no
+// path that is open to any file. `starts` has the start that was found last for each series.
 pub(crate) fn find_start<F: FileSystem>(
     alloc: Global,
     files: &mut F,
     given: &BTreeSet<String>,
     starts: &mut BTreeMap<Series, u32>,
-    wish: &Wish,
+    request: &RenameRequest,
 ) -> Result<u32, PlanError>
     ensures most { IfOk result (λ start. start ≤ 100000) }
     ensures start { IfOk result (λ start. Now (F.states files.old) (λ s.
         AreStarts (free_in s) (contains_text given.now) starts.old
-        → IsStart (free_in s) (contains_text given.now) (wanted_of wish.now) start)) }
+        → IsStart (free_in s) (contains_text given.now) (wanted_of request.now) start)) }
     ensures kept { OnOk result (Now (F.states files.old) (λ s.
         AreStarts (free_in s) (contains_text given.now) starts.old
         → AreStarts (free_in s) (contains_text given.now) starts.new)) }
@@ -43,11 +43,11 @@ pub(crate) fn find_start<F: FileSystem>(
     ensures same { F.states files.new ≡ F.states files.old }
     ensures count { F.failures files.new ≡ count_after (is_failed result) (F.failures files.old) }
 {
-    let Some(file) = wish.files.first() else {
+    let Some(file) = request.files.first() else {
         return Ok(0);
     };
     let series = Series {
-        base: wish.base.clone()?,
+        base: request.base.clone()?,
         ending: file.ending.clone()?,
     };
     let known = starts.get(&series).copied().unwrap_or(0);

@@ -6,7 +6,7 @@ ghost use Rattle.std.specs.Option.{option_map};
 ghost use Rattle.exif_rename.specs.Unused.{given_with, unused};
 
 use crate::plan::TRIES;
-use crate::wish::{candidate, joined};
+use crate::request::{candidate, joined};
 use std::alloc::{AllocError, Global};
 use std::collections::BTreeSet;
 

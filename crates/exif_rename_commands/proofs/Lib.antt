@@ -1,1 +1,6 @@
+mod Comparing
+mod Differing
+mod Finding
 mod Giving
+mod Sidecars
+mod Undoing

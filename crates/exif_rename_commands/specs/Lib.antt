@@ -1,4 +1,5 @@
 pub mod Backs
+pub mod Counting
 pub mod Entries
 pub mod Gathered
 pub mod Members

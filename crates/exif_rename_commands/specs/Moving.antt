@@ -1,5 +1,7 @@
 -- Files that are moved or copied to their new names.
-use Rattle.std.specs.Prelude.{◌≡◌, ◌⊎◌, ℕ, Bool, true, false, if◌then◌else◌, List, [], ◌∷◌, ◌++◌}
+use Rattle.std.specs.Prelude.{◌≡◌, ◌⊎◌, ℕ, Bool, true, false, if◌then◌else◌, List, [], ◌∷◌, ◌++◌, Option, Some, None, Result, Ok, Err, codes}
+use Rattle.std.specs.declared.fs.locks.TryLockError.{TryLockError}
+use Rattle.std.specs.declared.fs.locks.TryLockError.TheVariants as lock
 use Rattle.exif_files.specs.Folders.{folder_of}
 use Rattle.exif_files.specs.NewNames.{IsThere}
 use Rattle.exif_files.specs.Statuses.{worse}
@@ -48,3 +50,10 @@ IsGivenBy from to moved failed old new =
 -- what is counted beside the files where the disk may lack some new names
 abbrev pub IsSettled : Status → Status → Type 0
 IsSettled old new = (new ≡ old) ⊎ (new ≡ worse old Incomplete)
+
+-- A lock that another program has is a reason not to move a file. Where the file system has no locks,
+-- the call fails otherwise, which is none.
+abbrev pub why_locked : Result (Unit {0}) TryLockError → Option (List ℕ)
+why_locked (Ok x) = None
+why_locked (Err lock.WouldBlock) = Some (codes "another program has it locked")
+why_locked (Err (lock.Error cause)) = None

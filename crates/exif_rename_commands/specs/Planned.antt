@@ -1,6 +1,11 @@
 -- What becomes of the files of a stem.
-use Rattle.std.specs.Prelude.{◌≡◌, ℕ, Bool, true, false, ⊤}
-use Rattle.exif_rename.specs.Wishes.{Wanted}
+use Rattle.std.specs.Prelude.{◌≡◌, ℕ, Bool, true, false, ⊤, List, [], slice_get, string_bytes}
+use Rattle.std.specs.Global.{Global}
+use Rattle.std.specs.Option.{option_map_or}
+use Rattle.std.specs.declared.string.String.{String}
+use Rattle.exif_rename.specs.declared.plan.PlanError.{PlanError}
+use Rattle.exif_rename.specs.declared.plan.PlanError.TheVariants as plan
+use Rattle.exif_rename.specs.RenameRequests.{Wanted}
 use Rattle.exif_rename_commands.specs.Members.{looks_there}
 use Rattle.exif_rename_commands.specs.Present.{AreMoves, IsThere}
 use Rattle.exif_rename_commands.specs.declared.planned.Fate.{Fate}
@@ -14,3 +19,10 @@ IsFate copy has_folder sidecars wanted (Finish moves) =
     (copy ≡ false) × AreMoves wanted moves.items
 IsFate copy has_folder sidecars wanted (Leave there) =
     (looks_there copy has_folder ≡ true) × IsThere sidecars wanted there
+
+-- the path that is named where there is no plan: that of the picture whose new name too many files
+-- have
+abbrev pub path_refused : List (String Global) → PlanError → List ℕ
+path_refused paths (plan.Crowded index) = option_map_or string_bytes (slice_get paths index) []
+path_refused paths (plan.Io cause) = []
+path_refused paths plan.OutOfMemory = []

@@ -1,15 +1,13 @@
 //! The files of a run of `rename`: those that are named or found, and the sidecars of pictures.
 
-ghost use Rattle.std.specs.Prelude.{◌≡◌, ◌++◌, ℕ, List, IfOk, OnErr, OnOk, Some, length, map, option_map, string_bytes, true};
+ghost use Rattle.std.specs.Prelude.{◌≡◌, ◌++◌, ℕ, List, IfOk, OnOk, Some, length, map, option_map, string_bytes, true};
 ghost use Rattle.std.specs.BTreeSet.{contains_text};
 ghost use Rattle.exif_rename.specs.Grouped.{entry_of};
 ghost use Rattle.exif_rename.specs.Unused.{given_after};
 ghost use Rattle.exif_rename_commands.specs.Entries.{entry_at};
-ghost use Rattle.exif_decisions.specs.Tallies.{counted};
-ghost use Rattle.exif_decisions.specs.declared.outcome.Outcome.TheVariants.{Refused};
-ghost use Rattle.exif_inputs.specs.Pending.{with_counts};
-ghost use Rattle.exif_rename_commands.specs.Gathered.{is_told, listed, member_at, member_of, members_by, step_of, with_member};
+ghost use Rattle.exif_rename_commands.specs.Gathered.{AddsSidecars, if_there, is_told, listed, member_at, member_of, members_by, step_of, with_member, with_sidecar};
 
+use crate::counting::refuse;
 use crate::members::{Kind, is_sidecar};
 use exif::Sink;
 use exif_inputs::{Next, sidecars_of};
@@ -131,25 +129,47 @@ fn is_seen(seen: &BTreeSet<String>, key: &str) -> bool
     seen.contains(key)
 }
 
-// Adds the sidecars of all pictures that are not among the files yet.
+// Adds the sidecars of all pictures that are not among the files yet, behind the files.
 fn add_sidecars(
     rt: &HostRuntime,
     members: &mut Vec<Member>,
     seen: &mut BTreeSet<String>,
-) -> Result<(), AllocError> {
+) -> Result<(), AllocError>
+    ensures { OnOk result (AddsSidecars (contains_text seen.old) members.old.items
+        members.new.items) }
+{
     let alloc = rt.alloc();
     let mut found = Vec::new(alloc);
     for member in members.iter() {
         for key in sidecars_of(alloc, member.key.as_str())? {
-            if is_regular(rt, key.as_str()) {
-                add_member(&mut found, seen, sidecar_at(key)?)?;
-            }
+            let is_there = is_regular(rt, key.as_str());
+            add_sidecar(&mut found, seen, is_there, key)?;
         }
     }
     for sidecar in found {
         members.push(sidecar)?;
     }
     Ok(())
+}
+
+// Adds a sidecar that is there, once however often it is found.
+fn add_sidecar(
+    found: &mut Vec<Member>,
+    seen: &mut BTreeSet<String>,
+    is_there: bool,
+    key: String,
+) -> Result<(), AllocError>
+    ensures found { OnOk result (map entry_at found.new.items
+        ≡ with_sidecar (contains_text seen.old) is_there (string_bytes key)
+        (map entry_at found.old.items)) }
+    ensures seen { OnOk result ((q : List ℕ) → contains_text seen.new q
+        ≡ given_after (contains_text seen.old) (if_there is_there (string_bytes key)) q) }
+{
+    if is_there {
+        add_member(found, seen, sidecar_at(key)?)
+    } else {
+        Ok(())
+    }
 }
 
 // Whether a path is that of a regular file, and not of a link to one.
@@ -236,19 +256,4 @@ fn add_found<'m>(
         }
         None => Ok(()),
     }
-}
-
-/// Reports why a file was refused, and counts it.
-pub fn refuse<W: Sink, E: Sink, T: std::fmt::Display>(
-    session: &mut Session<'_, '_, W, E>,
-    path: &str,
-    cause: &T,
-) -> Result<(), Stop>
-    ensures counted { OnOk result (session.new.pending
-        ≡ with_counts (counted Refused session.old.pending.counts) session.old.pending) }
-    ensures kept { OnErr result (session.new.pending ≡ session.old.pending) }
-{
-    let outcome = session.refuse(path, cause)?;
-    session.count(outcome);
-    Ok(())
 }

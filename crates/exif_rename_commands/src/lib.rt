@@ -3,6 +3,7 @@
 #![tactic(auto)]
 
 mod backs;
+mod counting;
 mod gathering;
 mod members;
 mod moves;

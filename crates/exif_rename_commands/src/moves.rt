@@ -1,15 +1,19 @@
 //! Files that are moved or copied to their new names.
 
-ghost use Rattle.std.specs.Prelude.{◌≡◌, ◌≢◌, ◌≤◌, ◌⊎◌, ℕ, List, [], IfErr, IfOk, OnOk, IsFalse, IsTrue, Ok, Some, map, string_bytes, true};
+ghost use Rattle.std.specs.Prelude.{◌≡◌, ◌≢◌, ◌≤◌, ◌⊎◌, ℕ, List, [], IfErr, IfOk, OnOk, IsFalse, IsTrue, None, Ok, Some, false, is_some, map, string_bytes, true};
 ghost use Rattle.std.specs.BTreeSet.{contains_text};
+ghost use Rattle.std.specs.IoError.{error_kind};
+ghost use Rattle.std.specs.Result.{IsErrAnd};
 ghost use Rattle.exif_decisions.specs.declared.outcome.Outcome.TheVariants.{Current, Done};
 ghost use Rattle.exif_files.specs.Folders.{folder_of};
+ghost use Rattle.exif_files.specs.Names.{name_if};
 ghost use Rattle.exif_files.specs.States.{Run};
 ghost use Rattle.exif_files.specs.Steps.{count_after};
 ghost use Rattle.exif_files.specs.Written.{FailedToRemove};
 ghost use Rattle.exif_rename.specs.Moves.{IsCaused, IsNotCopied, IsNotMoved, IsWholeCopy, IsWholeMove};
 ghost use Rattle.exif_rename.specs.Unused.{given_after};
-ghost use Rattle.exif_rename_commands.specs.Moving.{IsCopiedBy, IsGivenBy, IsSettled, is_whole, may_be_lost, with_name};
+ghost use Rattle.exif_rename_commands.specs.Counting.{beside_as};
+ghost use Rattle.exif_rename_commands.specs.Moving.{IsCopiedBy, IsGivenBy, IsSettled, is_whole, may_be_lost, why_locked, with_name};
 
 use crate::words::NotMoved;
 use exif::Sink;
@@ -73,6 +77,9 @@ impl Folders {
         ensures kept { self.names.items ≡ [] → session.new ≡ session.old }
         ensures beside { IsSettled session.old.pending.counts.beside
             session.new.pending.counts.beside }
+        ensures waiting { session.new.pending.waiting ≡ session.old.pending.waiting }
+        ensures rest { session.new.pending
+            ≡ beside_as session.new.pending.counts.beside session.old.pending }
     {
         let mut files = HostFiles::new(session.rt);
         for name in self.names.iter() {
@@ -187,26 +194,62 @@ fn write_move<W: Sink, E: Sink>(
     session.answer(line.as_bytes())
 }
 
-// Moves or copies a file, into a folder that is made if it is not there. Two runs side by side never
-// move one file at a time, so that the second finds it gone.
-fn move_one(rt: &HostRuntime, copy: bool, from: &str, to: &str) -> Result<Moved, WriteError> {
+// Moves or copies a file, into a folder that is made if it is not there. Where the file system has
+// locks, two runs side by side do not move one file at a time, so that the second finds it gone.
+fn move_one(rt: &HostRuntime, copy: bool, from: &str, to: &str) -> Result<Moved, WriteError>
+    ensures { IsTrue copy → IfOk result (λ moved. may_be_lost moved ≡ false) }
+{
     fs::create_dir_all(rt, folder_of(to))?;
-    let _held = if copy { None } else { held(rt, from)? };
+    let _held = held_for(rt, copy, from)?;
     give_name(rt.alloc(), &mut HostFiles::new(rt), copy, from, to)
+}
+
+// A file that is locked while it is moved; nothing where it is copied.
+fn held_for(rt: &HostRuntime, copy: bool, path: &str) -> io::Result<Option<File>>
+    ensures { IsTrue copy → result ≡ Ok None }
+{
+    if copy {
+        return Ok(None);
+    }
+    held(File::open(rt, path))
 }
 
 // A file that is locked while it is moved; nothing where it can't be opened. Where the file system
 // has no locks it is moved without one.
-fn held(rt: &HostRuntime, path: &str) -> io::Result<Option<File>> {
-    let Ok(file) = File::open(rt, path) else {
-        return Ok(None);
-    };
-    match file.try_lock() {
-        Err(TryLockError::WouldBlock) => {
-            let why = "another program has it locked";
-            Err(io::Error::new(ErrorKind::WouldBlock, why))
+fn held(opened: io::Result<File>) -> io::Result<Option<File>>
+    ensures opened { IfOk opened (λ file. IfOk result (λ held. held ≡ Some file)) }
+    ensures unopened { IfErr opened (λ cause. result ≡ Ok None) }
+    ensures refused { IfErr result (λ e. error_kind e ≡ ErrorKind.WouldBlock) }
+{
+    match opened {
+        Ok(file) => {
+            unless_locked(why_locked(file.try_lock()))?;
+            Ok(Some(file))
         }
-        Ok(()) | Err(TryLockError::Error(_)) => Ok(Some(file)),
+        Err(_cause) => Ok(None),
+    }
+}
+
+// Why a file is not moved, by the answer of its lock: another program has it. Where the file system
+// has no locks, that is no reason.
+fn why_locked(locked: Result<(), TryLockError>) -> Option<&'static str>
+    ensures { name_if result ≡ why_locked locked }
+{
+    match locked {
+        Err(TryLockError::WouldBlock) => Some("another program has it locked"),
+        Ok(()) | Err(TryLockError::Error(_)) => None,
+    }
+}
+
+// The error of a file that is locked, if it is.
+fn unless_locked(why: Option<&str>) -> io::Result<()>
+    ensures free { why.entry ≡ None → result ≡ Ok tt }
+    ensures locked { is_some why.entry ≡ true
+        → IsErrAnd result (λ e. error_kind e ≡ ErrorKind.WouldBlock) }
+{
+    match why {
+        Some(why) => Err(io::Error::new(ErrorKind::WouldBlock, why)),
+        None => Ok(()),
     }
 }
 
@@ -239,6 +282,7 @@ fn give_name<F: FileSystem>(
         (count_after true (F.failures files.old) ≤ F.failures files.new)
         (count_after true (F.failures files.old) ≤ F.failures files.new))
         (F.states files.old) (F.states files.new)) }
+    ensures whole { IsTrue copy → IfOk result (λ moved. may_be_lost moved ≡ false) }
 {
     if copy {
         return match copy_file(alloc, files, from, to) {

@@ -2,7 +2,7 @@
 //! or they are there already.
 
 ghost use Rattle.std.specs.Prelude.{◌≡◌, ◌+◌, ◌==◌, IfOk, false, is_some, length, not};
-ghost use Rattle.exif_rename.specs.Wishes.{wanted_of};
+ghost use Rattle.exif_rename.specs.RenameRequests.{wanted_of};
 ghost use Rattle.exif_rename_commands.specs.Members.{looks_there, there_outcome};
 ghost use Rattle.exif_rename_commands.specs.Planned.{IsFate};
 
@@ -11,7 +11,7 @@ use crate::present::{Numbered, There, find_begun, find_there};
 use crate::stems::Stem;
 use exif::Sink;
 use exif_decisions::{Escaped, Outcome};
-use exif_rename::{Move, Wish};
+use exif_rename::{Move, RenameRequest};
 use exif_session::{Renaming, Session, Stop};
 use std::alloc::AllocError;
 
@@ -19,7 +19,7 @@ use std::alloc::AllocError;
 #[derive(Drop)]
 pub struct Planned {
     /// The names that are to be planned.
-    pub wishes: Vec<Wish>,
+    pub requests: Vec<RenameRequest>,
     /// The path of the first picture of each, as it was named or found.
     pub paths: Vec<String>,
     /// What an earlier run began.
@@ -55,15 +55,15 @@ fn fate_of(
     stem: &Stem,
 ) -> Result<Fate, AllocError>
     ensures { IfOk result (IsFate renaming.now.copy (is_some renaming.now.into)
-        stem.now.sidecars (wanted_of stem.now.wish)) }
+        stem.now.sidecars (wanted_of stem.now.request)) }
 {
     if !renaming.copy {
-        if let Some(moves) = find_begun(rt, numbered, &stem.wish, stem.sidecars)? {
+        if let Some(moves) = find_begun(rt, numbered, &stem.request, stem.sidecars)? {
             return Ok(Fate::Finish(moves));
         }
     }
     if looks_there(renaming.copy, renaming.into.is_some()) {
-        if let Some(there) = find_there(rt, numbered, &stem.wish, stem.sidecars)? {
+        if let Some(there) = find_there(rt, numbered, &stem.request, stem.sidecars)? {
             return Ok(Fate::Leave(there));
         }
     }
@@ -79,22 +79,24 @@ pub fn leave_there<W: Sink, E: Sink>(
     stems: Vec<Stem>,
 ) -> Result<Planned, Stop>
     ensures paths { IfOk result (λ planned.
-        length planned.paths.items ≡ length planned.wishes.items) }
+        length planned.paths.items ≡ length planned.requests.items) }
     ensures all { looks_there renaming.now.copy (is_some renaming.now.into) ≡ false
-        → IfOk result (λ planned. length planned.wishes.items + length planned.begun.items
+        → IfOk result (λ planned. length planned.requests.items + length planned.begun.items
         ≡ length stems.items) }
+    ensures waiting { session.new.pending.waiting ≡ session.old.pending.waiting }
+    ensures beside { session.new.pending.counts.beside ≡ session.old.pending.counts.beside }
 {
     let alloc = session.rt.alloc();
     let mut numbered = Numbered::new(alloc);
     let mut planned = Planned {
-        wishes: Vec::new(alloc),
+        requests: Vec::new(alloc),
         paths: Vec::new(alloc),
         begun: Vec::new(alloc),
     };
     for stem in stems {
         match fate_of(session.rt, &mut numbered, renaming, &stem)? {
             Fate::Plan => {
-                planned.wishes.push(stem.wish)?;
+                planned.requests.push(stem.request)?;
                 planned.paths.push(stem.path)?;
             }
             Fate::Finish(moves) => {
@@ -118,8 +120,9 @@ fn report_there<W: Sink, E: Sink>(
     path: &str,
     there: &There,
 ) -> Result<Outcome, Stop>
-    ensures { IfOk result (λ outcome. outcome
+    ensures outcome { IfOk result (λ outcome. outcome
         ≡ there_outcome copy (not (length there.now.differing.items == 0))) }
+    ensures pending { session.new.pending ≡ session.old.pending }
 {
     let alloc = session.rt.alloc();
     let to = Escaped(there.to.as_str());

@@ -1,12 +1,12 @@
 //! The files of one stem, which get one new name.
 
-ghost use Rattle.std.specs.Prelude.{◌≡◌, ◌≢◌, ℕ, List, [], All, IfErr, IfOk, OnErr, OnOk, count_by, length, string_bytes, take};
+ghost use Rattle.std.specs.Prelude.{◌≡◌, ◌≢◌, ℕ, List, [], All, IfErr, IfOk, OnErr, OnOk, count_by, flat_map, length, string_bytes, take};
 ghost use Rattle.std.specs.List.Sorted.{IsPermutation};
 ghost use Rattle.exif_files.specs.Folders.{folder_of};
 ghost use Rattle.exif_rename.specs.Grouped.{stem_of};
 ghost use Rattle.exif_rename.specs.Nested.{IsNested};
-ghost use Rattle.exif_rename.specs.Wishes.{wanted_of};
-ghost use Rattle.exif_inputs.specs.Wished.{wanted_for};
+ghost use Rattle.exif_rename.specs.RenameRequests.{wanted_of};
+ghost use Rattle.exif_inputs.specs.Requested.{wanted_for};
 ghost use Rattle.exif_rename_commands.specs.Members.{is_sidecar};
 ghost use Rattle.exif_decisions.specs.Tallies.{counted, skipped};
 ghost use Rattle.exif_decisions.specs.declared.found.Found.{Found};
@@ -15,13 +15,16 @@ ghost use Rattle.exif_inputs.specs.Pending.{with_counts};
 ghost use Rattle.exif_rename_commands.specs.Stems.{IsNoPicture, keys_of, left_by};
 ghost use Rattle.exif_rename_commands.specs.declared.members.Leaving.TheVariants.{Pass, Skip};
 
-use crate::gathering::{Member, entries_of, members_at, refuse};
+use crate::counting::refuse;
+use crate::gathering::{Member, entries_of, members_at};
 use crate::members::{Kind, Leaving, is_sidecar, left_as};
 use crate::names::new_name;
 use exif::{Error, Sink};
 use exif_files::folder_of;
-use exif_inputs::{NewName, folder_for, wish_for};
-use exif_rename::{Missing, Moment, Shot, Wish, compare_shots, planned_order, split_path};
+use exif_inputs::{NewName, folder_for, request_for};
+use exif_rename::{
+    Missing, Moment, Place, RenameRequest, Shot, compare_shots, planned_order, split_path,
+};
 use exif_session::{Renaming, Session, Stop};
 use std::alloc::{AllocError, Global};
 
@@ -29,7 +32,7 @@ use std::alloc::{AllocError, Global};
 #[derive(Drop)]
 pub struct Stem {
     /// The new name.
-    pub wish: Wish,
+    pub request: RenameRequest,
     /// How many of its files, the first ones, are sidecars.
     pub sidecars: usize,
     /// The path of the picture that gives the name, as it was named or found.
@@ -46,14 +49,25 @@ pub fn add_stems<W: Sink, E: Sink>(
     into: &str,
     members: &[Member],
     stems: &mut Vec<Stem>,
-) -> Result<(), Stop> {
+) -> Result<(), Stop>
+    ensures waiting { session.new.pending.waiting ≡ session.old.pending.waiting }
+    ensures beside { session.new.pending.counts.beside ≡ session.old.pending.counts.beside }
+{
     let alloc = session.rt.alloc();
     let order = planned_order(alloc, entries_of(alloc, members)?.as_slice())?;
-    for places in order.chunk_by(|a, b| a.leader == b.leader) {
+    let by_stem = by_stem(alloc, order.as_slice())?;
+    for places in by_stem.iter() {
         let together = members_at(alloc, members, places)?;
         add_stem(session, renaming, into, &together, stems)?;
     }
     Ok(sort_stems(stems)?)
+}
+
+// The places of the files of each stem, which are together.
+fn by_stem(alloc: Global, order: &[Place]) -> Result<Vec<&[Place]>, AllocError>
+    ensures { IfOk result (λ stems. flat_map (λ stem. stem.now) stems.items ≡ order.now) }
+{
+    order.chunk_by(|a, b| a.leader == b.leader).collect(alloc)
 }
 
 // Sorts stems by when their pictures were taken.
@@ -115,7 +129,7 @@ fn stem_by(
 {
     let key = named.key.as_str();
     Ok(Stem {
-        wish: wish_of(alloc, into, together, key, new.name.as_str())?,
+        request: request_of(alloc, into, together, key, new.name.as_str())?,
         sidecars: count_sidecars(together),
         path: named.path.clone()?,
         moment: new.moment,
@@ -198,42 +212,42 @@ fn count_sidecars(together: &[&Member]) -> usize
 
 // The new name that the files of a stem are to have, by that of one of them: below the folder that
 // is given, or else below that of the file, without the folders of the name where it ends in them.
-fn wish_of(
+fn request_of(
     alloc: Global,
     into: &str,
     together: &[&Member],
     key: &str,
     name: &str,
-) -> Result<Wish, AllocError>
-    ensures given { into.now ≢ [] → IfOk result (λ wish. wanted_of wish
+) -> Result<RenameRequest, AllocError>
+    ensures given { into.now ≢ [] → IfOk result (λ request. wanted_of request
         ≡ wanted_for into.now (stem_of key.now) name.now (keys_of together.now)) }
     ensures nested { into.now ≡ [] → (root : List ℕ)
-        → IsNested (folder_of key.now) name.now root → IfOk result (λ wish. wanted_of wish
+        → IsNested (folder_of key.now) name.now root → IfOk result (λ request. wanted_of request
         ≡ wanted_for root (stem_of key.now) name.now (keys_of together.now)) }
     ensures other { into.now ≡ []
         → ((root : List ℕ) → IsNested (folder_of key.now) name.now root → ⊥)
-        → IfOk result (λ wish. wanted_of wish
+        → IfOk result (λ request. wanted_of request
         ≡ wanted_for (folder_of key.now) (stem_of key.now) name.now (keys_of together.now)) }
 {
     let (stem, _) = split_path(key);
     let folder = folder_for(into, folder_of(key), name);
-    wish_in(alloc, folder, stem, name, together)
+    request_in(alloc, folder, stem, name, together)
 }
 
 // The new name that files are to have, in a folder.
-fn wish_in(
+fn request_in(
     alloc: Global,
     folder: &str,
     stem: &str,
     name: &str,
     together: &[&Member],
-) -> Result<Wish, AllocError>
-    ensures { IfOk result (λ wish. wanted_of wish
+) -> Result<RenameRequest, AllocError>
+    ensures { IfOk result (λ request. wanted_of request
         ≡ wanted_for folder.now stem.now name.now (keys_of together.now)) }
 {
     let mut paths = Vec::new(alloc);
     for member in together {
         paths.push(member.key.as_str())?;
     }
-    wish_for(alloc, folder, stem, name, paths.as_slice())
+    request_for(alloc, folder, stem, name, paths.as_slice())
 }

@@ -1,10 +1,12 @@
 //! Why files get no other name, in words.
 
-ghost use Rattle.std.specs.Prelude.{Some};
-ghost use Rattle.exif_rename_commands.specs.Words.{not_back_text, not_moved_text};
+ghost use Rattle.std.specs.Prelude.{◌≡◌, IfOk, Some, string_bytes};
+ghost use Rattle.exif_rename_commands.specs.Words.{not_back_text, not_moved_text, not_planned_text, wrong_line_text};
 
 use exif_decisions::Escaped;
 use exif_files::WriteError;
+use exif_rename::PlanError;
+use std::alloc::{AllocError, Global};
 use std::fmt;
 
 /// Why a file is not moved or copied.
@@ -17,6 +19,23 @@ impl fmt::Display for NotMoved {
     fn fmt<W: fmt::Write>(&self, f: &mut fmt::Formatter<W>) -> fmt::Result {
         match &self.0 {
             WriteError::Taken => f.write_str("its new name is taken"),
+            error => write!(f, "{error}"),
+        }
+    }
+}
+
+/// Why no file is renamed.
+#[derive(Drop)]
+pub struct NotPlanned(pub PlanError);
+
+impl fmt::Display for NotPlanned {
+    ghost output = { not_planned_text };
+
+    fn fmt<W: fmt::Write>(&self, f: &mut fmt::Formatter<W>) -> fmt::Result {
+        match &self.0 {
+            PlanError::Crowded(_) => {
+                f.write_str("too many files have its new name; nothing is renamed")
+            }
             error => write!(f, "{error}"),
         }
     }
@@ -55,4 +74,11 @@ impl fmt::Display for NotBackLine<'_> {
             }
         }
     }
+}
+
+/// Why no rename is taken back, where the line of this number is none of a run.
+pub fn wrong_line(alloc: Global, number: usize) -> Result<String, AllocError>
+    ensures { IfOk result (λ why. string_bytes why ≡ wrong_line_text number) }
+{
+    format!(in alloc; "line {number} is no line of rename, as 'OLD -> NEW'; nothing is done")
 }

@@ -1,54 +1,22 @@
 -- The spans of a file are in order.
-use Rattle.std.proofs.Common.{◌≡◌, ◌<◌, ◌≤◌, ◌+◌, ◌-◌, ℕ, zero, suc, Bool, true, false, cond, ltb, eqb, List, [], ◌∷◌, length, drop, take, min, Option, Some, None, refl, subst, arith, length-drop, length-take}
+use Rattle.std.proofs.Common.{◌≡◌, ◌<◌, ◌≤◌, ◌+◌, ◌-◌, ℕ, zero, suc, Bool, true, false, cond, ltb, List, [], ◌∷◌, length, drop, take, min, Option, Some, None, refl, subst, arith, length-drop, length-take}
 use Rattle.std.proofs.lemmas.Bool.Decides.{nat_tests}
 use Rattle.std.proofs.lemmas.Grind.{common_steps}
 use Rattle.exif_inventory.specs.declared.kind.Kind.TheVariants as kind
-use Rattle.exif_inventory_heif.specs.Boxes.{checked, content_of, head_of, name_of, number, sized_head}
+use Rattle.exif_inventory.specs.BoxHeaders.{content_of, head_of, name_of}
 use Rattle.exif_inventory_heif.specs.Inventories.{heif_layout, is_heif, layout_of}
 use Rattle.exif_inventory_heif.specs.Pieces.{box_piece, child_box, child_piece, content_front, is_meta, meta_piece, piece_at, rest_piece, top_box, top_piece}
 use Rattle.exif_inventory_heif.specs.Roles.{child_role, top_role}
 use Rattle.exif_inventory_heif.specs.Walks.{AreSpans, spans_of, walked}
-use Rattle.exif_inventory_heif.specs.declared.boxes.Head.{Head}
+use Rattle.exif_inventory.specs.declared.boxes.Head.{Head}
 use Rattle.exif_inventory_heif.specs.declared.piece.Piece.{Piece}
 use Rattle.exif_inventory_heif.specs.declared.piece.State.{State}
 use Rattle.exif_inventory_heif.specs.declared.piece.State.TheVariants.{Before, Inside}
 use Rattle.exif_inventory_heif.specs.declared.role.Role.{Role}
 use Rattle.exif_inventory_heif.specs.declared.role.Role.TheVariants.{Known, Meta}
 use Rattle.exif_inventory_heif.specs.declared.span.Span.{Span}
+use Rattle.exif_inventory.proofs.BoxHeads.{HeadIn, head_in}
 use Rattle.exif_inventory_heif.proofs.PartOrder.{layout_ordered}
-
--- ---- headers
-
--- a header, if there is one, is in so many bytes
-abbrev HeadIn : ℕ → Option Head → Type 0
-HeadIn all None = Unit {0}
-HeadIn all (Some head) = (8 ≤ head.front) × (head.front ≤ head.len) × (head.len ≤ all)
-
-checked_if : (t : Bool) (front len all : ℕ) → 8 ≤ front → (t ≡ false → (front ≤ len) × (len ≤ all))
-    → HeadIn all (cond t None (Some (record { front = front; len = len })))
-checked_if true front len all least h = tt
-checked_if false front len all least h = let p = h refl in (least, p.0, p.1)
-
-checked_in : (front len all : ℕ) → 8 ≤ front → HeadIn all (checked front len all)
-checked_in front len all least = checked_if _ front len all least (λ e. (grind (arith, nat_tests), grind (arith, nat_tests)))
-
-either_in : (t : Bool) (all : ℕ) (x y : Option Head) → HeadIn all x → HeadIn all y → HeadIn all (cond t x y)
-either_in true all x y h k = h
-either_in false all x y h k = k
-
-sized_in : (size : ℕ) (bytes : List ℕ) → HeadIn (length bytes) (sized_head size bytes)
-sized_in size bytes =
-    let all = length bytes in
-    let large = checked 16 (number 8 (drop 8 bytes)) all in
-    let one = cond (ltb all 16) None large in
-    either_in (eqb size 0) all (checked 8 all all) (cond (eqb size 1) one (checked 8 size all)) (checked_in 8 all all (omega arith))
-    (either_in (eqb size 1) all one (checked 8 size all)
-    (either_in (ltb all 16) all None large tt (checked_in 16 (number 8 (drop 8 bytes)) all (omega arith)))
-    (checked_in 8 size all (omega arith)))
-
-head_in : (bytes : List ℕ) → HeadIn (length bytes) (head_of bytes)
-unfolding head_of
-head_in bytes = either_in (ltb (length bytes) 8) (length bytes) None (sized_head (number 4 bytes) bytes) tt (sized_in (number 4 bytes) bytes)
 
 -- ---- pieces
 

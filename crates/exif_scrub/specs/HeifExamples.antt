@@ -3,7 +3,8 @@ use Rattle.std.specs.Prelude.{◌≡◌, refl, ℕ, List, [], ◌∷◌, ◌++�
 use Rattle.exif_inventory.specs.declared.kind.Kind.{Kind}
 use Rattle.exif_inventory.specs.declared.kind.Kind.TheVariants as kind
 use Rattle.exif_inventory.specs.declared.part.Part.{Part}
-use Rattle.exif_inventory_heif.specs.Boxes.{head_of, number}
+use Rattle.exif_inventory.specs.BoxHeaders.{box_header, head_of}
+use Rattle.exif_inventory_heif.specs.Numbers.{number}
 use Rattle.exif_inventory_heif.specs.Carving.{carve_one, carved, cut_one, exif_content, item_span}
 use Rattle.exif_inventory_heif.specs.Extents.{entries_in, entry_head, entry_step, extent_at, extents_of, is_known, wide_entries, widths_of}
 use Rattle.exif_inventory_heif.specs.Inventories.{layout_of}
@@ -68,7 +69,7 @@ scrubbed_file : scrubbed (brands ++ 0 ∷ 0 ∷ 0 ∷ 26 ∷ codes "uuid" ++ 0xb
       Some (part kind.Unknown 46 10 54 2 ∷ part kind.Unknown 56 9 56 9
           ∷ part kind.Broken 65 2 65 2 ∷ []),
     )
-unfolding layout_of walked top_piece head_of number blanked
+unfolding layout_of walked top_piece head_of box_header number blanked
 scrubbed_file = refl
 
 -- an entry of an item with this number and type: 21 bytes
@@ -104,5 +105,5 @@ scrubbed_items : scrubbed (three_items (0 ∷ 0 ∷ 0 ∷ 0 ∷ replicate 16 7) 
           (32 ∷ 32 ∷ []) (0 ∷ 0 ∷ 0 ∷ 10 ∷ codes "free" ++ 0 ∷ 0 ∷ []),
       Some [],
     )
-unfolding layout_of walked top_piece child_piece head_of number items_of items_in repeated type_kind extents_of is_known widths_of wide_entries entries_in entry_step entry_head extent_at carved carve_one cut_one item_span exif_content blanked
+unfolding layout_of walked top_piece child_piece head_of box_header number items_of items_in repeated type_kind extents_of is_known widths_of wide_entries entries_in entry_step entry_head extent_at carved carve_one cut_one item_span exif_content blanked
 scrubbed_items = refl

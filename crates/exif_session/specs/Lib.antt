@@ -1,5 +1,6 @@
 pub mod Answers
 pub mod Choosing
+pub mod Counting
 pub mod Flags
 pub mod InPlace
 pub mod NotChangedTexts

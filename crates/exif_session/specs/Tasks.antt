@@ -10,37 +10,16 @@ use Rattle.exif_session.specs.declared.request.Task.TheVariants as task
 
 -- what a task requires of a picture: changes and checks need its parts
 abbrev pub use_for : Task → Use
-use_for (task.Show reading) = Fields
-use_for (task.Json reading tags) = Fields
-use_for (task.Table table) = Fields
 use_for (task.Check form strict) = Parts
 use_for (task.Change change target) = Parts
-use_for (task.Summary reading) = Fields
-use_for (task.Thumbnail path force) = Fields
-use_for (task.Thumbnails path force) = Fields
-use_for (task.Rename renaming) = Fields
-use_for (task.Undo dry_run) = Fields
-use_for (task.Touch zone) = Fields
 use_for (task.Geotag geotagging) = Parts
 use_for (task.Copy copying) = Parts
-use_for (task.Catalog cataloguing) = Fields
+use_for t = Fields
 
 -- whether files that are not read get new names with the pictures beside them
 abbrev pub takes_companions : Task → Bool
-takes_companions (task.Show reading) = false
-takes_companions (task.Json reading tags) = false
-takes_companions (task.Table table) = false
-takes_companions (task.Check form strict) = false
-takes_companions (task.Change change target) = false
-takes_companions (task.Summary reading) = false
-takes_companions (task.Thumbnail path force) = false
-takes_companions (task.Thumbnails path force) = false
 takes_companions (task.Rename renaming) = true
-takes_companions (task.Undo dry_run) = false
-takes_companions (task.Touch zone) = false
-takes_companions (task.Geotag geotagging) = false
-takes_companions (task.Copy copying) = false
-takes_companions (task.Catalog cataloguing) = false
+takes_companions t = false
 
 -- whether files of a target are replaced
 abbrev pub replaces : Target → Bool
@@ -49,17 +28,15 @@ replaces (Out path force) = false
 
 -- whether a task changes the files that are found
 abbrev pub changes : Task → Bool
-changes (task.Show reading) = false
-changes (task.Json reading tags) = false
-changes (task.Table table) = false
-changes (task.Check form strict) = false
 changes (task.Change change target) = replaces target
-changes (task.Summary reading) = false
-changes (task.Thumbnail path force) = false
-changes (task.Thumbnails path force) = false
 changes (task.Rename renaming) = not renaming.dry_run
 changes (task.Undo dry_run) = not dry_run
 changes (task.Touch zone) = true
 changes (task.Geotag geotagging) = true
 changes (task.Copy copying) = true
-changes (task.Catalog cataloguing) = false
+changes t = false
+
+-- whether a task changes the metadata of files as requested of each
+abbrev pub is_change : Task → Bool
+is_change (task.Change change target) = true
+is_change t = false

@@ -1,9 +1,12 @@
 //! A changed file that is written to another one.
 
-ghost use Rattle.std.specs.Prelude.{◌≡◌, OnErr, OnOk};
+ghost use Rattle.std.specs.Prelude.{◌≡◌, ◌==◌, IfErr, IfOk, OnErr, OnOk, false, length};
+ghost use Rattle.exif_decisions.specs.Outcomes.{outcome_for};
 ghost use Rattle.exif_decisions.specs.Tallies.{counted};
 ghost use Rattle.exif_decisions.specs.declared.outcome.Outcome.{Outcome};
+ghost use Rattle.exif_decisions.specs.declared.outcome.Outcome.TheVariants.{Refused};
 ghost use Rattle.exif_inputs.specs.Pending.{with_counts};
+ghost use Rattle.exif_session.specs.Tasks.{is_change};
 
 use crate::change::{change_bytes, notes_of};
 use crate::notes::NoteLine;
@@ -11,7 +14,7 @@ use crate::output::{OutError, out_of, write_out};
 use crate::request::{Change, Task};
 use crate::session::{Session, Stop};
 use exif::Sink;
-use exif_change::Refusal;
+use exif_change::{Left, Refusal};
 use exif_decisions::Outcome;
 use exif_inputs::read_file;
 
@@ -42,15 +45,35 @@ pub fn change_into<W: Sink, E: Sink>(
         Err(Refusal::OutOfMemory) => return Err(Stop::OutOfMemory),
         Err(refusal) => return session.refuse(path, &refusal),
     };
-    match write_out(rt, to, destination, new.file.as_slice(), session.out)? {
-        Ok(()) => {}
-        Err(error) => return session.refuse(path, &error),
+    let written = write_out(rt, to, destination, new.file.as_slice(), session.out)?;
+    match end_into(session, path, new.left.as_slice(), written)? {
+        Outcome::Refused => Ok(Outcome::Refused),
+        outcome => {
+            say_notes(session, what, path, old.as_slice())?;
+            Ok(outcome)
+        }
     }
-    for left in new.left.iter() {
+}
+
+// Reports what was left undone in a changed file, or why it was not written.
+fn end_into<W: Sink, E: Sink>(
+    session: &mut Session<'_, '_, W, E>,
+    path: &str,
+    left: &[Left],
+    written: Result<(), OutError>,
+) -> Result<Outcome, Stop>
+    ensures done { IfOk written (λ t. IfOk result (λ outcome.
+        outcome ≡ outcome_for (length left.now == 0))) }
+    ensures refused { IfErr written (λ error. IfOk result (λ outcome. outcome ≡ Refused)) }
+    ensures pending { session.new.pending ≡ session.old.pending }
+{
+    if let Err(error) = written {
+        return session.refuse(path, &error);
+    }
+    for left in left {
         session.say(path, left)?;
     }
-    say_notes(session, what, path, old.as_slice())?;
-    Ok(Outcome::of_done(new.left.is_empty()))
+    Ok(Outcome::of_done(left.is_empty()))
 }
 
 // Writes the notes on a change of these bytes.
@@ -75,6 +98,9 @@ fn say_notes<W: Sink, E: Sink>(
 pub fn change_input<W: Sink, E: Sink>(session: &mut Session<'_, '_, W, E>) -> Result<(), Stop>
     ensures counted { OnOk result ((outcome : Outcome) × (session.new.pending
         ≡ with_counts (counted outcome session.old.pending.counts) session.old.pending)) }
+    ensures refused { is_change session.old.request.now.task ≡ false → OnOk result
+        (session.new.pending
+        ≡ with_counts (counted Refused session.old.pending.counts) session.old.pending) }
     ensures kept { OnErr result (session.new.pending ≡ session.old.pending) }
 {
     let request = session.request;

@@ -1,12 +1,13 @@
 //! Files that are changed in place, each once.
 
-ghost use Rattle.std.specs.Prelude.{◌≡◌, ◌==◌, ◌<◌, ◌+◌, ◌^◌, false, true, IfOk, OnErr, OnOk, Ok, length, map, option_map, string_bytes};
+ghost use Rattle.std.specs.Prelude.{◌≡◌, ◌==◌, ◌<◌, ◌+◌, ◌^◌, ℕ, List, Option, false, true, IfOk, IfSome, None, OnErr, OnOk, Ok, length, map, option_map, string_bytes};
 ghost use Rattle.std.specs.Result.{IsErrAnd};
 ghost use Rattle.std.specs.IoError.{error_kind};
 ghost use Rattle.std.specs.Path.{path_buf_bytes};
 ghost use Rattle.exif_files.specs.Names.{name_if};
 ghost use Rattle.std.specs.Fmt.{DisplaysOnOk};
 ghost use Rattle.exif_session.specs.NotChangedTexts.{writing_text};
+ghost use Rattle.exif_inputs.specs.Requested.{absolute_by};
 ghost use Rattle.exif_session.specs.InPlace.{IsAdded, named_at};
 ghost use Rattle.exif_decisions.specs.Outcomes.{outcome_for};
 ghost use Rattle.exif_decisions.specs.declared.outcome.Outcome.TheVariants.{Refused};
@@ -137,13 +138,21 @@ pub fn outcome_of<L, N, R>(changed: &Result<Report<L, N>, Failure<R>>) -> Outcom
 /// A path from the root of the file system on: where its links end, and where nothing has it, its
 /// name in the folder where those of its folder end.
 pub fn absolute_of(rt: &HostRuntime, path: &str) -> Result<String, AllocError> {
-    let found = fs::canonicalize(rt, path).ok();
-    let folder = if found.is_some() {
-        None
-    } else {
-        fs::canonicalize(rt, folder_of(path)).ok()
-    };
-    absolute_by(rt.alloc(), path, text_of(&found), text_of(&folder))
+    absolute_from(rt, path, fs::canonicalize(rt, path).ok())
+}
+
+// The same of a path whose links end here, if something has it.
+fn absolute_from(rt: &HostRuntime, path: &str, found: Option<PathBuf>) -> Result<String, AllocError>
+    ensures found { IfSome found (λ found. IfOk result (λ text.
+        string_bytes text ≡ path_buf_bytes found)) }
+    ensures beside { found ≡ None → IfOk result (λ text. (folder : Option (List ℕ))
+        × (string_bytes text ≡ absolute_by path.now None folder)) }
+{
+    if found.is_some() {
+        return absolute_by(rt.alloc(), path, text_of(&found), None);
+    }
+    let folder = fs::canonicalize(rt, folder_of(path)).ok();
+    absolute_by(rt.alloc(), path, None, text_of(&folder))
 }
 
 /// The text of a path, if there is one.

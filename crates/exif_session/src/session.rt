@@ -6,6 +6,7 @@ ghost use Rattle.exif_decisions.specs.Tallies.{counted, counted_current, counted
 ghost use Rattle.exif_decisions.specs.declared.outcome.Outcome.TheVariants.{Partial, Refused, Unchanged};
 ghost use Rattle.exif_files.specs.Statuses.{code, worse};
 ghost use Rattle.exif_files.specs.declared.outcome.Status.TheVariants as status;
+ghost use Rattle.exif_session.specs.Counting.{with_beside};
 ghost use Rattle.exif_session.specs.Choosing.{IsChosen, IsChosenInFolder};
 ghost use Rattle.exif_inputs.specs.Pending.{named, next_file, waiting_of, with_counts, with_names};
 ghost use Rattle.exif_session.specs.Tasks.{changes, takes_companions};
@@ -354,7 +355,8 @@ impl<'r, 'a, W: Sink, E: Sink> Session<'r, 'a, W, E> {
 
     /// Counts what became of something that is no file of the run: a track, a catalogue, a folder.
     pub fn count_beside(&mut self, status: Status)
-        ensures { self.new.pending.counts.beside
+        ensures pending { self.new.pending ≡ with_beside status self.old.pending }
+        ensures beside { self.new.pending.counts.beside
             ≡ worse self.old.pending.counts.beside status }
     {
         self.pending.counts.add_beside(status);
@@ -362,6 +364,8 @@ impl<'r, 'a, W: Sink, E: Sink> Session<'r, 'a, W, E> {
 
     /// Reports why something that is no file of the run was refused, and counts it.
     pub fn refuse_beside<T: Display>(&mut self, path: &str, cause: &T) -> Result<(), Stop>
+        ensures pending { OnOk result
+            (self.new.pending ≡ with_beside status.Refused self.old.pending) }
         ensures counted { OnOk result (self.new.pending.counts.beside ≡ status.Refused) }
         ensures kept { OnErr result (self.new.pending ≡ self.old.pending) }
     {

@@ -8,7 +8,7 @@ use Rattle.exif_types.specs.Failures.{Failure, error_text}
 use Rattle.exif_types.specs.Refusals.{is_io}
 use Rattle.exif_tiff.specs.Answers.{raw_answer}
 use Rattle.exif_reader.specs.Files.{file_answer}
-use Rattle.exif_report.specs.Reports.{Reports, ReportsSome}
+use Rattle.exif_reader.specs.Reports.{Reports, ReportsSome}
 
 -- whether to pass over faults, and which argument is the file's path
 abbrev pub asked_by : List (List ℕ) → Option (Bool × ℕ)

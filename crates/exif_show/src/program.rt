@@ -6,7 +6,7 @@ ghost use Rattle.exif_types.specs.Refusals.{is_io, IsInterrupted};
 ghost use Rattle.exif_show.specs.Program.{asked_by, Says, SaysWhole, Shows};
 
 use exif_base::{Sink, Source, send_all};
-use exif_report::report;
+use exif_reader::report::report;
 use exif_types::Error;
 use std::alloc::Global;
 

@@ -2,7 +2,7 @@
 
 use crate::answers::text_of;
 use exif::{Counted, Error, Exif, Reader};
-use exif_report::report;
+use exif_reader::report::report;
 use std::alloc::Global;
 use std::io::{Read, Write};
 use std::test::Fail;

@@ -7,7 +7,7 @@ use exif_base::{Blocks, Counted};
 use exif_containers::{exif_attr_of_stream, isobmff};
 use exif_formats::{Options, Picture, read_bytes};
 use exif_json::json_of_answer;
-use exif_report::{report, report_limited};
+use exif_reader::report::{report, report_limited};
 use exif_segments::util::read_all;
 use exif_segments::{get_exif_attr_from_jpeg, jpeg, webp};
 use std::alloc::{AllocError, Global};

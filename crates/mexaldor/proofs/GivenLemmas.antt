@@ -1,5 +1,5 @@
 -- Numbers that texts spell.
-use Rattle.std.proofs.Common.{◌≡◌, ℕ, ◌<◌, ◌^◌, List, [], ◌∷◌, length, Bool, true, false, nat_lt, arith, refl, ◌&&◌, Option, Some, None, sym, ap}
+use Rattle.std.proofs.Common.{◌≡◌, ℕ, ◌<◌, ◌^◌, List, [], ◌∷◌, length, Bool, true, false, nat_lt, refl, ◌&&◌, Some, None}
 use Rattle.std.proofs.lemmas.Bool.{ltb-true, lt-ltb}
 use Rattle.std.specs.Char.{digit_value}
 use Rattle.std.specs.List.{list_all}

@@ -1,2 +1,3 @@
 mod GivenLemmas
+mod LineLemmas
 mod RequestLemmas

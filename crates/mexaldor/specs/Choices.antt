@@ -41,10 +41,10 @@ names_fact fact names = list_any (λ name. is_fact fact (fact_named name)) names
 
 -- What is asked of a fact: that a picture does not tell it, wherever `--without` names it, or that
 -- it tells it, where only `--where` does.
-abbrev pub asked_of : Fact → List (List ℕ) → List (List ℕ) → Option Bool
-asked_of fact told untold =
-    if names_fact fact untold then Some false else
-    if names_fact fact told then Some true else None
+abbrev pub fact_wanted : Fact → List (List ℕ) → List (List ℕ) → Option Bool
+fact_wanted fact required excluded =
+    if names_fact fact excluded then Some false else
+    if names_fact fact required then Some true else None
 
 abbrev pub is_known : Result Fact Mistake → Bool
 is_known (Ok fact) = true
@@ -61,9 +61,9 @@ choice_with found after before =
     then Ok (record {
       after = after;
       before = before;
-      date = asked_of Date (words_in found (codes "where")) (words_in found (codes "without"));
+      date = fact_wanted Date (words_in found (codes "where")) (words_in found (codes "without"));
       location =
-          asked_of Location (words_in found (codes "where")) (words_in found (codes "without"));
+          fact_wanted Location (words_in found (codes "where")) (words_in found (codes "without"));
       camera = text_in found (codes "camera");
     })
     else Err (mistake_text UnknownFact)

@@ -1,5 +1,5 @@
 -- How the program ends.
-use Rattle.std.specs.Prelude.{ℕ, Bool, true, false, if◌then◌else◌, Option, None, Some, Result, Ok, Err}
+use Rattle.std.specs.Prelude.{ℕ, Bool, true, false, if◌then◌else◌, Result, Ok, Err}
 use Rattle.std.specs.IoError.{error_kind}
 use Rattle.std.specs.declared.io.Error as io
 use Rattle.std.specs.declared.io.ErrorKind.{ErrorKind}
@@ -7,6 +7,8 @@ use Rattle.std.specs.declared.io.ErrorKind.TheVariants.{BrokenPipe}
 use Rattle.exif_session.specs.declared.request.Cataloguing.{Cataloguing}
 use Rattle.exif_session.specs.declared.request.Task.{Task}
 use Rattle.exif_session.specs.declared.request.Task.TheVariants.{Catalog, Rename, Undo}
+use Rattle.mexaldor.specs.declared.ending.TaskRun.{TaskRun}
+use Rattle.mexaldor.specs.declared.ending.TaskRun.TheVariants as run
 use Rattle.exif_session.specs.declared.session.Stop.{Stop}
 use Rattle.exif_session.specs.declared.session.Stop.TheVariants as stop
 
@@ -36,13 +38,20 @@ abbrev pub end_status : Result ℕ Stop → ℕ
 end_status (Ok status) = status
 end_status (Err why) = stop_status why
 
--- whether files are to get other names, or their old ones back
-abbrev pub is_renaming : Task → Bool
-is_renaming (Rename renaming) = true
-is_renaming (Undo dry_run) = true
-is_renaming _ = false
+-- which run a task has: a catalogue is brought up to date, files get other names or their old ones
+-- back, or one file is processed after the other
+pub data TheRun : Type 0 where
+  the_catalog_run : Cataloguing → TheRun
+  the_rename_run : TheRun
+  the_file_run : TheRun
 
--- how a catalogue is brought up to date, if that is asked for
-abbrev pub cataloguing_in : Task → Option Cataloguing
-cataloguing_in (Catalog cataloguing) = Some cataloguing
-cataloguing_in _ = None
+abbrev pub run_seen : TaskRun → TheRun
+run_seen (run.Catalog cataloguing) = the_catalog_run cataloguing.now
+run_seen run.Renames = the_rename_run
+run_seen run.Files = the_file_run
+
+abbrev pub run_for : Task → TheRun
+run_for (Catalog cataloguing) = the_catalog_run cataloguing
+run_for (Rename renaming) = the_rename_run
+run_for (Undo dry_run) = the_rename_run
+run_for _ = the_file_run

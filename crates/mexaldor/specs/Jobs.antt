@@ -1,5 +1,5 @@
 -- What the options of the subcommands for many pictures ask for.
-use Rattle.std.specs.Prelude.{ℕ, if◌then◌else◌, not, List, [], ◌∷◌, ◌++◌, length, ◌==◌, Bool, true, false, Option, None, Some, is_some, Result, Ok, Err, codes}
+use Rattle.std.specs.Prelude.{ℕ, if◌then◌else◌, not, List, [], ◌∷◌, ◌++◌, length, Bool, true, false, Option, None, Some, is_some, Result, Ok, Err, codes}
 use Rattle.std.specs.Str.{chars}
 use Rattle.exif_decisions.specs.Asking.{mistake_text, thumbnail_aim, undo_mistake}
 use Rattle.exif_decisions.specs.Escaping.{escaped_text}

@@ -1,5 +1,5 @@
 -- What is asked for, with texts in place of the references to them.
-use Rattle.std.specs.Prelude.{ℕ, List, map, Bool, Option, None, Some, option_map, Result, Ok, Err, String}
+use Rattle.std.specs.Prelude.{ℕ, List, map, Bool, Option, option_map, Result, Ok, Err, String}
 use Rattle.std.specs.Global.{Global}
 use Rattle.std.specs.String.{string_bytes}
 use Rattle.exif_assign.specs.Assigning.{parts_of}

@@ -1,5 +1,8 @@
 //! The arguments of the program.
 
+ghost use Rattle.std.specs.Prelude.{◌≡◌, ◌++◌, codes, true, IfOk, IsSomeAnd, string_bytes};
+ghost use Rattle.mexaldor.specs.Subcommands.{can_be_wrong, shown_name_of};
+
 use crate::changes::places_only;
 use crate::options;
 use clap::{Arg, Command};
@@ -36,8 +39,13 @@ pub fn command<'a>(alloc: Global) -> Result<Command<'a>, AllocError> {
         .subcommand(tags(alloc))
 }
 
-/// A subcommand by its name, for the usage that an error prints.
-pub fn subcommand<'a>(alloc: Global, name: &str) -> Result<Command<'a>, AllocError> {
+/// A subcommand by its name, for the usage that an error prints: the one of this name, if its words
+/// can be wrong, and else the program.
+pub fn subcommand<'a>(alloc: Global, name: &str) -> Result<Command<'a>, AllocError>
+    ensures shown { can_be_wrong name.now ≡ true → IfOk result (λ it.
+        IsSomeAnd (shown_name_of it) (λ text. string_bytes text
+        ≡ codes "mexaldor " ++ name.now)) }
+{
     match name {
         "show" => show(alloc)?.bin_name("mexaldor show"),
         "json" => json(alloc)?.bin_name("mexaldor json"),
@@ -270,7 +278,7 @@ fn copy<'a>(alloc: Global) -> Result<Command<'a>, AllocError> {
         .about("Put the metadata of one picture into others, in place of their own")
         .override_usage("mexaldor copy [OPTIONS] FROM FILE...")
         .after_help(
-            "FROM is a picture of any format but TIFF and raw; XMP packets come from JPEG, PNG, WebP and JPEG XL, colour profiles from JPEG, PNG and WebP. FILE is a JPEG, WebP, PNG or JPEG XL picture; a packet and a profile are not put into JPEG XL.",
+            "FROM is a picture of any format but TIFF and raw; XMP packets come from JPEG, PNG, WebP and JPEG XL, colour profiles from JPEG, PNG and WebP. FILE is a JPEG, WebP, PNG or JPEG XL picture; a profile is not put into JPEG XL.",
         )
         .arg(options::flag(
             alloc,

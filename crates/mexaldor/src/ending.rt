@@ -1,7 +1,7 @@
 //! How the program ends: its status, and what is done with a request.
 
-ghost use Rattle.std.specs.Prelude.{◌≡◌, ◌&&◌, not, option_map};
-ghost use Rattle.mexaldor.specs.Endings.{cataloguing_in, is_closed, is_renaming, shown_status};
+ghost use Rattle.std.specs.Prelude.{◌≡◌, ◌&&◌, not};
+ghost use Rattle.mexaldor.specs.Endings.{is_closed, run_for, run_seen, shown_status};
 
 use exif_session::{Cataloguing, Stop, Task};
 use std::io::{self, ErrorKind};
@@ -37,19 +37,34 @@ pub fn shows_progress(is_err_terminal: bool, is_out_terminal: bool) -> bool
     is_err_terminal && !is_out_terminal
 }
 
-/// Whether files are to get other names, or their old ones back.
-pub fn is_renaming(task: &Task<'_>) -> bool
-    ensures { result ≡ is_renaming task.now }
-{
-    matches!(task, Task::Rename(_) | Task::Undo(_))
+/// Which run a task has.
+#[derive(Clone, Copy)]
+pub enum TaskRun<'t, 'a> {
+    /// A catalogue is brought up to date.
+    Catalog(&'t Cataloguing<'a>),
+    /// Files get other names, or their old ones back.
+    Renames,
+    /// One file is processed after the other.
+    Files,
 }
 
-/// How a catalogue is brought up to date, if that is asked for.
-pub fn cataloguing_in<'t, 'a>(task: &'t Task<'a>) -> Option<&'t Cataloguing<'a>>
-    ensures { option_map (λ found. found.now) result ≡ cataloguing_in task.now }
+/// Which run a task has.
+pub fn run_for<'t, 'a>(task: &'t Task<'a>) -> TaskRun<'t, 'a>
+    ensures { run_seen result ≡ run_for task.now }
 {
     match task {
-        Task::Catalog(cataloguing) => Some(cataloguing),
-        _ => None,
+        Task::Catalog(cataloguing) => TaskRun::Catalog(cataloguing),
+        Task::Rename(_) | Task::Undo(_) => TaskRun::Renames,
+        Task::Show(_)
+        | Task::Json(..)
+        | Task::Table(_)
+        | Task::Check(..)
+        | Task::Change(..)
+        | Task::Summary(_)
+        | Task::Thumbnail(..)
+        | Task::Thumbnails(..)
+        | Task::Touch(_)
+        | Task::Geotag(_)
+        | Task::Copy(_) => TaskRun::Files,
     }
 }

@@ -1,7 +1,8 @@
 //! The words of the command line.
 
-ghost use Rattle.std.specs.Prelude.{◌≡◌, IfOk, map, string_bytes};
-ghost use Rattle.mexaldor.specs.Line.{is_set, spelled_word, words_for};
+ghost use Rattle.std.specs.Prelude.{◌≡◌, ℕ, List, IfOk, IfSome, Ok, map, string_bytes};
+ghost use Rattle.exif_decisions.specs.Escaping.{readable};
+ghost use Rattle.mexaldor.specs.Line.{is_set, kinds_of, len_by, spelled_word, words_for};
 
 use exif_decisions::{canonical_word, is_assignment, readable};
 use std::alloc::{AllocError, Global};
@@ -15,18 +16,32 @@ const LONGEST: usize = 131_072;
 /// The words of the command line. A word that is no UTF-8 is as [`readable`] writes it, so that its
 /// file can be named, though it can't be opened. The assignments of `set` have the names of tags as
 /// the standard spells them.
-pub fn words(rt: &HostRuntime) -> io::Result<Vec<String>> {
+pub fn words(rt: &HostRuntime) -> io::Result<Vec<String>>
+    ensures { IfOk result (λ all. (given : List (List ℕ))
+        × (map string_bytes all.items ≡ words_for (map readable given))) }
+{
     let mut words = Vec::new(rt.alloc());
     let mut word = Vec::new(rt.alloc());
     word.resize(LONGEST, 0)?;
-    for index in 0..usize::MAX {
-        match rt.arg(index, word.as_mut_slice()) {
-            Ok(len) => words.push(readable(rt.alloc(), &word[..len])?)?,
-            Err(FillError::NotPresent) => break,
-            Err(FillError::TooLong) => return Err(io::Error::from(ErrorKind::ArgumentListTooLong)),
-        }
+    'words: for index in 0..usize::MAX {
+        let Some(len) = len_by(rt.arg(index, word.as_mut_slice()))? else {
+            break;
+        };
+        words.push(readable(rt.alloc(), &word[..len])?)?;
     }
     Ok(words_for(rt.alloc(), words)?)
+}
+
+// How long a word is that was asked for, if there is one; or that it is too long.
+fn len_by(filled: Result<usize, FillError>) -> io::Result<Option<usize>>
+    ensures kinds { kinds_of result ≡ len_by filled }
+    ensures len { IfOk result (λ found. IfSome found (λ len. filled ≡ Ok len)) }
+{
+    match filled {
+        Ok(len) => Ok(Some(len)),
+        Err(FillError::NotPresent) => Ok(None),
+        Err(FillError::TooLong) => Err(io::Error::from(ErrorKind::ArgumentListTooLong)),
+    }
 }
 
 // The words, by the subcommand that they name.

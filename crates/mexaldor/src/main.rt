@@ -1,14 +1,17 @@
 //! Exif metadata of many files: shown, written as JSON, removed, set and shifted.
 #![tactic(auto)]
 
-ghost use Rattle.std.specs.Prelude.{◌≡◌};
+ghost use Rattle.std.specs.Prelude.{◌≡◌, ◌≢◌, ◌⊎◌, IfOk};
+ghost use Rattle.clap.specs.Values.{kind_of};
+ghost use Rattle.clap.specs.declared.error.kind.ErrorKind.TheVariants.{DisplayHelp, DisplayVersion};
+ghost use Rattle.exif_session.specs.Statuses.{IsStatus};
 ghost use Rattle.mexaldor.specs.Endings.{end_status, stop_status};
 
 mod arguments;
-mod asked;
 mod changes;
 mod ending;
 mod given;
+mod invocation;
 mod jobs;
 mod line;
 mod options;
@@ -16,45 +19,64 @@ mod selection;
 mod tags;
 
 use arguments::command;
-use asked::{Asked, asked_of};
 use clap::Error;
-use ending::{cataloguing_in, is_closed, is_renaming, shown_status, shows_progress};
+use ending::{TaskRun, is_closed, run_for, shown_status, shows_progress};
 use exif::Counted;
 use exif_catalog_commands::{answer_query, run_catalog, write_page};
 use exif_commands::run;
 use exif_decisions::write_tags;
 use exif_rename_commands::run_renames;
 use exif_session::{Paging, Request, Stop};
+use invocation::{Invocation, parse_args};
 use line::words;
 use std::io::{self, BufWriter, IsTerminal};
 use std::process::ExitCode;
 
 fn main(rt: HostRuntime) -> io::Result<ExitCode> {
     let words = words(&rt)?;
-    let status = match answer(&rt, words.as_slice()) {
+    Ok(ExitCode::from(status_for(&rt, words.as_slice())))
+}
+
+// Does what the words request, or says what is wrong with them, and answers the status.
+fn status_for(rt: &HostRuntime, words: &[String]) -> u8
+    ensures { IsStatus result ⊎ (result ≡ 2) }
+{
+    match answer(rt, words) {
         Ok(status) => status,
-        Err(error) => {
-            let is_mistake = error.use_stderr();
-            ended(&rt, shown_status(is_mistake, error.print(&rt)))
-        }
-    };
-    Ok(ExitCode::from(status))
+        Err(error) => shown(rt, &error),
+    }
+}
+
+// Writes the help, or a message about wrong words, and answers the status.
+fn shown(rt: &HostRuntime, error: &Error) -> u8
+    ensures mistake { kind_of error.now ≢ DisplayHelp → kind_of error.now ≢ DisplayVersion
+        → result ≡ 2 }
+    ensures help { kind_of error.now ≡ DisplayHelp → (result ≡ 0) ⊎ (result ≡ 1) }
+    ensures version { kind_of error.now ≡ DisplayVersion → (result ≡ 0) ⊎ (result ≡ 1) }
+    ensures status { IsStatus result ⊎ (result ≡ 2) }
+{
+    let is_mistake = error.use_stderr();
+    ended(rt, shown_status(is_mistake, error.print(rt)))
 }
 
 // Does what the words request, and answers the status.
-fn answer(rt: &HostRuntime, words: &[String]) -> Result<u8, Error> {
+fn answer(rt: &HostRuntime, words: &[String]) -> Result<u8, Error>
+    ensures { IfOk result IsStatus }
+{
     let mut command = command(rt.alloc())?;
     let found = command.try_get_matches_from_mut(words)?;
-    match asked_of(rt.alloc(), &found)? {
-        Asked::Tags => Ok(listed(rt)),
-        Asked::Run(request) => Ok(done(rt, &request)),
-        Asked::Query(database, sql) => Ok(queried(rt, database, sql)),
-        Asked::Page(paging) => Ok(paged(rt, &paging)),
+    match parse_args(rt.alloc(), &found)? {
+        Invocation::Tags => Ok(list_tags(rt)),
+        Invocation::Run(request) => Ok(run_request(rt, &request)),
+        Invocation::Query(database, sql) => Ok(run_query(rt, database, sql)),
+        Invocation::Page(paging) => Ok(run_page(rt, &paging)),
     }
 }
 
 // Writes the answer of a catalogue.
-fn queried(rt: &HostRuntime, database: &str, sql: &str) -> u8 {
+fn run_query(rt: &HostRuntime, database: &str, sql: &str) -> u8
+    ensures { IsStatus result }
+{
     let out = match BufWriter::new(rt.alloc(), rt.stdout()) {
         Ok(out) => out,
         Err(_) => return stopped(rt, Stop::OutOfMemory),
@@ -65,7 +87,9 @@ fn queried(rt: &HostRuntime, database: &str, sql: &str) -> u8 {
 }
 
 // Writes the page of a catalogue.
-fn paged(rt: &HostRuntime, paging: &Paging<'_>) -> u8 {
+fn run_page(rt: &HostRuntime, paging: &Paging<'_>) -> u8
+    ensures { IsStatus result }
+{
     let out = match BufWriter::new(rt.alloc(), rt.stdout()) {
         Ok(out) => out,
         Err(_) => return stopped(rt, Stop::OutOfMemory),
@@ -76,7 +100,9 @@ fn paged(rt: &HostRuntime, paging: &Paging<'_>) -> u8 {
 }
 
 // Lists the tags.
-fn listed(rt: &HostRuntime) -> u8 {
+fn list_tags(rt: &HostRuntime) -> u8
+    ensures { (result ≡ 0) ⊎ (result ≡ 1) }
+{
     let written = match BufWriter::new(rt.alloc(), rt.stdout()) {
         Ok(out) => write_tags(rt.alloc(), &mut Counted::new(out)),
         Err(error) => Err(error),
@@ -85,7 +111,9 @@ fn listed(rt: &HostRuntime) -> u8 {
 }
 
 // Does what is requested with the files.
-fn done(rt: &HostRuntime, request: &Request<'_>) -> u8 {
+fn run_request(rt: &HostRuntime, request: &Request<'_>) -> u8
+    ensures { IsStatus result }
+{
     let is_shown = shows_progress(rt.stderr().is_terminal(), rt.stdout().is_terminal());
     let out = match BufWriter::new(rt.alloc(), rt.stdout()) {
         Ok(out) => out,
@@ -93,19 +121,20 @@ fn done(rt: &HostRuntime, request: &Request<'_>) -> u8 {
     };
     let mut out = Counted::new(out);
     let mut err = Counted::new(rt.stderr());
-    let ran = match cataloguing_in(&request.task) {
-        Some(cataloguing) => run_catalog(rt, request, cataloguing, is_shown, &mut out, &mut err),
-        None if is_renaming(&request.task) => {
-            run_renames(rt, request, is_shown, &mut out, &mut err)
+    let ran = match run_for(&request.task) {
+        TaskRun::Catalog(cataloguing) => {
+            run_catalog(rt, request, cataloguing, is_shown, &mut out, &mut err)
         }
-        None => run(rt, request, is_shown, &mut out, &mut err),
+        TaskRun::Renames => run_renames(rt, request, is_shown, &mut out, &mut err),
+        TaskRun::Files => run(rt, request, is_shown, &mut out, &mut err),
     };
     ended(rt, ran)
 }
 
 // The status of a run. Why it ended early is reported.
 fn ended(rt: &HostRuntime, run: Result<u8, Stop>) -> u8
-    ensures { result ≡ end_status run }
+    ensures exact { result ≡ end_status run }
+    ensures status { IfOk run IsStatus → IsStatus result }
 {
     match run {
         Ok(status) => status,
@@ -115,7 +144,8 @@ fn ended(rt: &HostRuntime, run: Result<u8, Stop>) -> u8
 
 // Reports why a run ended early, and answers the status. A closed pipe ends it without a message.
 fn stopped(rt: &HostRuntime, stop: Stop) -> u8
-    ensures { result ≡ stop_status stop }
+    ensures exact { result ≡ stop_status stop }
+    ensures status { IsStatus result }
 {
     if is_closed(&stop) {
         return 0;

@@ -3,7 +3,7 @@
 ghost use Rattle.std.specs.Prelude.{◌≡◌, IfOk, codes, option_map, string_bytes};
 ghost use Rattle.exif_decisions.specs.Asking.{fact_named, mistake_text};
 ghost use Rattle.exif_files.specs.Names.{name_if};
-ghost use Rattle.mexaldor.specs.Choices.{are_facts, asked_of, choice_for, date_by, has_condition, is_fact, is_known, names_fact};
+ghost use Rattle.mexaldor.specs.Choices.{are_facts, fact_wanted, choice_for, date_by, has_condition, is_fact, is_known, names_fact};
 ghost use Rattle.mexaldor.specs.Given.{text_in, texts, words_in};
 ghost use Rattle.mexaldor.specs.Requests.{but_last, files_wrong, keeping_for, last_of, reading_for, requested, takes_many};
 ghost use Rattle.mexaldor.specs.Views.{answer_by, answer_seen, choice_seen, task_seen};
@@ -94,18 +94,18 @@ fn choice_of<'a>(
         Ok(before) => before,
         Err(wrong) => return Ok(Err(wrong)),
     };
-    let told = words_at(alloc, matches, "where")?;
-    let untold = words_at(alloc, matches, "without")?;
-    let (told, untold) = (told.as_slice(), untold.as_slice());
-    let are_known = are_facts(told) && are_facts(untold);
+    let required = words_at(alloc, matches, "where")?;
+    let excluded = words_at(alloc, matches, "without")?;
+    let (required, excluded) = (required.as_slice(), excluded.as_slice());
+    let are_known = are_facts(required) && are_facts(excluded);
     if !are_known {
         return Ok(Err(wrong(alloc, Mistake::UnknownFact)?));
     }
     Ok(Ok(Choice {
         after,
         before,
-        date: asked_of(Fact::Date, told, untold),
-        location: asked_of(Fact::Location, told, untold),
+        date: fact_wanted(Fact::Date, required, excluded),
+        location: fact_wanted(Fact::Location, required, excluded),
         camera: camera_of(matches),
     }))
 }
@@ -162,13 +162,13 @@ fn names_fact(fact: Fact, names: &[&str]) -> bool
 }
 
 // What is asked of a fact by the names behind `--where` and those behind `--without`.
-fn asked_of(fact: Fact, told: &[&str], untold: &[&str]) -> Option<bool>
-    ensures { result ≡ asked_of fact (texts told.now) (texts untold.now) }
+fn fact_wanted(fact: Fact, required: &[&str], excluded: &[&str]) -> Option<bool>
+    ensures { result ≡ fact_wanted fact (texts required.now) (texts excluded.now) }
 {
-    if names_fact(fact, untold) {
+    if names_fact(fact, excluded) {
         return Some(false);
     }
-    if names_fact(fact, told) {
+    if names_fact(fact, required) {
         return Some(true);
     }
     None

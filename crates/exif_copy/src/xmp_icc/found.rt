@@ -4,32 +4,15 @@ ghost use Rattle.std.specs.Prelude.{◌≡◌, ◌++◌, [], true, false, None, 
 ghost use Rattle.std.specs.Option.{option_map};
 ghost use Rattle.exif_types.specs.Refusals.{Gives, refusal_of};
 ghost use Rattle.exif_copy.specs.Parts.{if_extension};
-ghost use Rattle.exif_copy.specs.Packets.{extension_of, packet_in, packet_view, xmp_of};
-ghost use Rattle.exif_copy.specs.Profiles.{assembly_view, begun, chunk_found, finished, profile_in, profile_of, profile_view, with_part, with_parts, with_segment};
+ghost use Rattle.exif_blocks.specs.PutViews.{packet_view, profile_view};
+ghost use Rattle.exif_copy.specs.Packets.{extension_of, packet_in, xmp_of};
+ghost use Rattle.exif_copy.specs.Profiles.{assembly_view, begun, chunk_found, finished, no_source, profile_in, profile_of, with_part, with_parts, with_segment};
 
-use crate::xmp_icc::parts::{Block, bytes_of, data_of, first_data, holds, is_extension};
-use crate::xmp_icc::putting::Container;
+use crate::xmp_icc::parts::{bytes_of, data_of, first_data, holds, is_extension};
+use exif_blocks::{Block, Container, Profile, Xmp};
 use exif_inventory::{Part, inventory};
 use exif_types::Error;
 use std::alloc::{AllocError, Global};
-
-/// The XMP packet of a picture.
-#[derive(Debug, Drop)]
-pub struct Xmp {
-    /// The packet.
-    pub packet: Vec<u8>,
-    /// The segments of a JPEG file that go on with it, as they stand.
-    pub extension: Vec<u8>,
-}
-
-/// The colour profile of a picture.
-#[derive(Debug, Drop)]
-pub enum Profile {
-    /// Its bytes.
-    Plain(Vec<u8>),
-    /// What a PNG file holds: a name, and the bytes compressed.
-    Compressed(Vec<u8>),
-}
 
 // ---- XMP
 
@@ -174,6 +157,13 @@ fn chunk_found(alloc: Global, parts: &[Part], file: &[u8]) -> Result<Vec<u8>, Er
     }
 }
 
+// Why no profile is taken out of other files.
+fn no_source() -> Error
+    ensures { refusal_of result ≡ Some no_source }
+{
+    Error::NotSupported("colour profiles are copied from JPEG, PNG and WebP files only")
+}
+
 // The profile of a file of these parts.
 fn profile_in(
     alloc: Global,
@@ -187,6 +177,7 @@ fn profile_in(
         Container::Jpeg => finished(assembled(alloc, parts, file)?),
         Container::Png => Ok(Profile::Compressed(chunk_found(alloc, parts, file)?)),
         Container::WebP => Ok(Profile::Plain(chunk_found(alloc, parts, file)?)),
+        Container::JpegXl => Err(no_source()),
     }
 }
 
@@ -206,5 +197,5 @@ pub fn profile_of(
             return profile_in(alloc, container, parts.as_slice(), file);
         }
     }
-    Err(Error::NotSupported("colour profiles are copied from JPEG, PNG and WebP files only"))
+    Err(no_source())
 }

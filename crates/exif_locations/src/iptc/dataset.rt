@@ -5,8 +5,8 @@ ghost use Rattle.exif_locations.specs.IptcDatasets.{all_zero, dataset_at, is_loc
 
 use crate::iptc::fault::Fault;
 
-/// How long the front of a dataset is.
-pub const FRONT: usize = 5;
+/// How many bytes the header of a dataset has.
+pub const HEADER_LEN: usize = 5;
 
 /// A dataset: its length, and whether it names a location.
 #[derive(Clone, Copy, Debug)]
@@ -52,13 +52,13 @@ pub fn next_dataset(input: &[u8]) -> Result<Dataset, Fault>
     if input[0] != 0x1c {
         return Err(Fault::NoDataset);
     }
-    if input.len() < FRONT {
+    if input.len() < HEADER_LEN {
         return Err(Fault::Cut);
     }
     if 128 <= input[3] {
         return Err(Fault::Extended);
     }
-    let len = FRONT + 256 * input[3] as usize + input[4] as usize;
+    let len = HEADER_LEN + 256 * input[3] as usize + input[4] as usize;
     if input.len() < len {
         return Err(Fault::Cut);
     }

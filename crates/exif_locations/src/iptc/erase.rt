@@ -3,7 +3,7 @@
 ghost use Rattle.std.specs.Prelude.{◌≡◌, ◌<◌, ◌≤◌, ◌+◌, ◌-◌, ◌++◌, length, take, drop, replicate, IfOk, IsOk, OnErr, Ok};
 ghost use Rattle.exif_locations.specs.IptcDatasets.{erased, found};
 
-use crate::iptc::dataset::{FRONT, all_zero, next_dataset};
+use crate::iptc::dataset::{HEADER_LEN, all_zero, next_dataset};
 use crate::iptc::fault::Fault;
 
 // Whether data have a dataset that names a location.
@@ -55,7 +55,7 @@ fn erase(input: &mut [u8])
             return;
         };
         if next.location {
-            blank(input, at + FRONT, at + next.len);
+            blank(input, at + HEADER_LEN, at + next.len);
         }
         at += next.len;
     }

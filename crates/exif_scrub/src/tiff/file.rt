@@ -12,7 +12,7 @@ use exif_base::Order;
 use std::alloc::{AllocError, Global};
 
 // How many directories a file has at most in a row.
-const MOST: u32 = 1_000;
+const MAX_DIRECTORIES: u32 = 1_000;
 
 // The order of the numbers of a TIFF file.
 fn order_in(file: &[u8]) -> Result<Order, Fault>
@@ -40,7 +40,7 @@ fn walk_file(file: &[u8], pass: Pass, new: &mut [u8]) -> Result<(), Fault>
     let order = order_in(file)?;
     let old = Old { order, bytes: file };
     let first = old.long(4)?;
-    walk_chain(old, pass, first, MOST, new)
+    walk_chain(old, pass, first, MAX_DIRECTORIES, new)
 }
 
 // Keeps what of a file stays.

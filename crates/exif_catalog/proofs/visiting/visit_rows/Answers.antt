@@ -4,8 +4,9 @@ use Rattle.sqlite.specs.State.{CommitsShowing, HasCleanDisk, Survives}
 use Rattle.exif_catalog.specs.Errors.{database_error}
 use Rattle.exif_catalog.specs.Reading.{HandsEach}
 use Rattle.exif_catalog.specs.Schema.{pictures_text, shown_columns}
-use Rattle.exif_catalog.specs.Shown.{HandsPicture}
+use Rattle.exif_catalog.specs.Shown.{HandsPicture, texts_of_row}
 use Rattle.exif_catalog.specs.declared.errors.RunError.TheVariants as run
+use Rattle.exif_catalog.proofs.Showing.{shown_more}
 use Rattle.exif_catalog.proofs.Streaming.{handed_all, handed_none, handed_on, handed_too_many, hand_fails}
 use Rattle.exif_catalog.proofs.visiting.visit_rows.Goals as goal
 
@@ -30,6 +31,7 @@ rows-init g c = (
   rw c.pictures_text.ensures at c.in_ok-answer.ensures.survives,
   λ clean. handed_none g.S.Store (HandsPicture g.V.Visitor.visits) (pictures_text shown_columns)
       c.args.database.now c.args.visitor.now _ (rw c.pictures_text.ensures at (c.in_ok-answer.ensures.begun clean)),
+  ([], refl, refl),
 )
 
 pub rows-preserved : goal.rows-preserved
@@ -41,6 +43,8 @@ rows-preserved g c = (
       c.next.follows.holds-at-none c.rows.visitor c.rows.count c.rows.invariant.2 _ refl clean
       c.in-Some.row c.show.new.visitor (c.in_ok-row.was ∙ ap (λ it. Ok it) c.in-Some.is)
       (c.in_ok-texts_of.field-0, c.in_ok-texts_of.ensures.shown, c.in_ok-show.ensures.shown),
+  shown_more g.V.Visitor.visits c.args.visitor.now c.rows.visitor c.show.new.visitor c.rows.count
+      (texts_of_row c.in_ok-texts_of.field-0) c.rows.invariant.3 c.in_ok-show.ensures.shown,
 )
 
 pub returns-in_default-clause-rows : goal.returns-in_default-clause-rows

@@ -2,7 +2,7 @@ use Rattle.std.proofs.Common.{◌≡◌, []}
 use Rattle.sqlite.specs.Held.{state}
 use Rattle.sqlite.specs.State.{CommitsShowing, HasCleanDisk, Survives}
 use Rattle.exif_catalog.specs.Schema.{pictures_text, shown_columns}
-use Rattle.exif_catalog.specs.Shown.{HandsPicture}
+use Rattle.exif_catalog.specs.Shown.{HandsPicture, ShowsEach}
 use Rattle.exif_catalog.proofs.Streaming.{HasHanded}
 use Rattle.exif_catalog.proofs.visiting.visit_rows.Given as goal
 
@@ -15,3 +15,4 @@ invariant-rows g l =
     × Survives old now (CommitsShowing (pictures_text shown_columns) [] old)
     × (HasCleanDisk now → HasHanded g.S.Store (HandsPicture g.V.Visitor.visits)
     (pictures_text shown_columns) l.fn.database l.fn.visitor l.answer.conn.now l.visitor l.count)
+    × ShowsEach g.V.Visitor.visits l.fn.visitor l.count l.visitor

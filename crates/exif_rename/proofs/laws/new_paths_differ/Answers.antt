@@ -3,4 +3,4 @@ use Rattle.std.specs.Prelude.{[]}
 use Rattle.exif_rename.proofs.laws.new_paths_differ.Goals as goal
 
 pub returns : goal.returns
-returns c = λ free wishes numbers is. differ free [] wishes numbers is
+returns c = λ free requests numbers is. differ free [] requests numbers is

@@ -9,5 +9,5 @@ invariant-loop-number g l = record {
   same : g.F.FileSystem.states l.files ≡ g.F.FileSystem.states l.fn.files;
   count : g.F.FileSystem.failures l.files ≡ g.F.FileSystem.failures l.fn.files;
   rest : (names : List (List ℕ)) → ((q : List ℕ) → contains_text l.given q ≡ is_among q names)
-      → FitFrom (g.F.FileSystem.states l.fn.files) names (contains_text l.given) l.wish l.start l.number;
+      → FitFrom (g.F.FileSystem.states l.fn.files) names (contains_text l.given) l.request l.start l.number;
 }

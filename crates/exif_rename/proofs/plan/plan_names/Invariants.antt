@@ -14,5 +14,5 @@ invariant-loop-index g l = record {
   closed : Now (g.F.FileSystem.states l.initial.files) (λ s. AreStarts (free_in s) (contains_text l.given) l.starts);
   each : length l.numbers.items ≡ l.index;
   so_far : (names : List (List ℕ)) × ((q : List ℕ) → contains_text l.given q ≡ is_among q names)
-      × PlannedFrom (g.F.FileSystem.states l.initial.files) l.wishes names l.numbers.items l.index;
+      × PlannedFrom (g.F.FileSystem.states l.initial.files) l.requests names l.numbers.items l.index;
 }

@@ -1,5 +1,5 @@
 use Rattle.exif_rename.proofs.Begun.{none_below, none_more, open_here}
-use Rattle.exif_rename.specs.Wishes.{candidate}
+use Rattle.exif_rename.specs.RenameRequests.{candidate}
 use Rattle.std.proofs.Common.{◌≡◌, ◌++◌, ◌≤◌, ◌∙◌, true, false, arith, rules}
 use Rattle.std.specs.BTreeSet.{contains_text}
 use Rattle.std.specs.String.{string_bytes}

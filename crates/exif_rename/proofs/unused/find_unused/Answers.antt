@@ -1,5 +1,5 @@
 use Rattle.exif_rename.proofs.Chosen.{unused_hit, unused_miss, unused_none}
-use Rattle.exif_rename.specs.Wishes.{candidate}
+use Rattle.exif_rename.specs.RenameRequests.{candidate}
 use Rattle.std.proofs.Common.{◌≡◌, ◌++◌, ◌<◌, ◌≤◌, ◌∙◌, Some, true, false, ap, arith, rules, subst, sym}
 use Rattle.std.specs.BTreeSet.{contains_text}
 use Rattle.std.specs.String.{string_bytes}

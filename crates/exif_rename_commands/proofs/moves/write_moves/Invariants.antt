@@ -1,4 +1,4 @@
-use Rattle.std.proofs.Common.{◌≡◌, [], take}
+use Rattle.std.proofs.Common.{◌≡◌, []}
 use Rattle.exif_rename_commands.proofs.moves.write_moves.Given as goal
 
 -- what waits and what was counted stay, and without moves all else, too

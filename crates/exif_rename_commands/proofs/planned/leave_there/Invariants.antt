@@ -6,7 +6,9 @@ use Rattle.exif_rename_commands.proofs.planned.leave_there.Given as goal
 -- finished.
 abbrev pub invariant-loop-stem : goal.invariant-loop-stem
 invariant-loop-stem g l = record {
-  paths : length l.planned.paths.items ≡ length l.planned.wishes.items;
+  paths : length l.planned.paths.items ≡ length l.planned.requests.items;
   all : looks_there l.renaming.copy (is_some l.renaming.into) ≡ false
-      → length l.planned.wishes.items + length l.planned.begun.items ≡ length l.yielded;
+      → length l.planned.requests.items + length l.planned.begun.items ≡ length l.yielded;
+  waiting : l.session.pending.waiting ≡ l.initial.session.pending.waiting;
+  beside : l.session.pending.counts.beside ≡ l.initial.session.pending.counts.beside;
 }

@@ -1,0 +1,4 @@
+pub mod BlockSteps
+pub mod Fits
+pub mod PutOnce
+pub mod Spans

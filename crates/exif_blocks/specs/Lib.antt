@@ -1,0 +1,11 @@
+pub mod BlockExamples
+pub mod BlockLaws
+pub mod Blocks
+pub mod JpegBlocks
+pub mod JxlBlocks
+pub mod PngBlocks
+pub mod PutBlocks
+pub mod PutRefusals
+pub mod PutViews
+pub mod WebpBlocks
+pub mod Zlib

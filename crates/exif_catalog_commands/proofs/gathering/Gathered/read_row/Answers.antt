@@ -1,0 +1,13 @@
+use Rattle.std.proofs.Common.{rules}
+use Rattle.exif_catalog_commands.proofs.gathering.Gathered.read_row.Goals as goal
+
+pub returns-clause-row : goal.returns-clause-row
+returns-clause-row g c = record {
+  format = c.in_ok-format.format;
+  answer = c.in_ok-format.answer;
+  exif = c.in_ok-exif.exif;
+  is = search rules;
+  contents = search rules;
+  format_is = search rules;
+  reads = search rules;
+}

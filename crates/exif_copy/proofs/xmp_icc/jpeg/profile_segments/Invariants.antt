@@ -1,9 +1,0 @@
-use Rattle.std.proofs.Common.{◌≡◌, ◌+◌, ◌-◌, []}
-use Rattle.exif_copy.specs.JpegSegments.{pieces}
-use Rattle.exif_copy.proofs.xmp_icc.jpeg.profile_segments.Given as goal
-
--- the segments that are left add to what is there what all of them add to nothing
-abbrev pub invariant-loop-index : goal.invariant-loop-index
-invariant-loop-index l =
-    pieces (l.count - l.index) (l.index + 1) l.count l.rest l.out.items
-    ≡ pieces l.count 1 l.count l.profile []

@@ -1,8 +1,0 @@
-use Rattle.std.proofs.Common.{◌≡◌, ◌++◌, drop, map}
-use Rattle.exif_rename.specs.Wishes.{file_of, move_of, moves_in}
-use Rattle.exif_rename.proofs.wish.moves_in.Given as goal
-
-abbrev pub invariant-loop-file : goal.invariant-loop-file
-invariant-loop-file l =
-    moves_in l.name (map file_of l.files)
-    ≡ map move_of l.moves.items ++ moves_in l.name (map file_of (drop l.file-index l.files))

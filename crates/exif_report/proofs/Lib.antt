@@ -1,2 +1,0 @@
-pub mod ReportingFindings
-pub mod ReportingLines

@@ -1,7 +1,0 @@
-use Rattle.std.proofs.Common.{rules}
-use Rattle.exif_report.specs.Lines.{error_line, fault_line}
-use Rattle.exif_report.proofs.lines.set_error_line.Goals as goal
-
-pub returns-in-Ok-clause-text : goal.returns-in-Ok-clause-text
-unfolding error_line fault_line
-returns-in-Ok-clause-text c = search rules
