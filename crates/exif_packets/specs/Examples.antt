@@ -1,0 +1,60 @@
+-- Worked packets: a JPEG file with an XMP packet and two portions of the rest of it.
+use Rattle.std.specs.Prelude.{◌≡◌, refl, ℕ, List, [], ◌∷◌, ◌++◌, codes, replicate, Ok, Err, Some}
+use Rattle.exif_inventory.specs.JpegPieces.{stream_piece}
+use Rattle.exif_inventory.specs.Walks.{walked}
+use Rattle.exif_packets.specs.Packets.{packets}
+use Rattle.exif_packets.specs.Portions.{joined}
+use Rattle.exif_packets.specs.declared.packet.Form.{Form}
+use Rattle.exif_packets.specs.declared.packet.Form.TheVariants.{Xmp, XmpPortion}
+use Rattle.exif_packets.specs.declared.packet.Packet.{Packet}
+
+-- the identifier of the packet, and another one
+abbrev pub id : List ℕ
+id = replicate 32 65
+
+abbrev pub other_id : List ℕ
+other_id = replicate 32 66
+
+-- a segment of a length with this identifier and these bytes
+abbrev pub segment : ℕ → List ℕ → List ℕ → List ℕ
+segment len name content = 255 ∷ 225 ∷ 0 ∷ len ∷ [] ++ (name ++ content)
+
+-- a portion of a packet of 5 bytes, at an offset in that
+abbrev pub portion : ℕ → ℕ → List ℕ → List ℕ
+portion len offset bytes =
+    segment len (codes "http://ns.adobe.com/xmp/extension/\0")
+    (id ++ (0 ∷ 0 ∷ 0 ∷ 5 ∷ 0 ∷ 0 ∷ 0 ∷ offset ∷ [] ++ bytes))
+
+abbrev pub file : List ℕ
+file =
+    255 ∷ 216 ∷ []
+    ++ (segment 33 (codes "http://ns.adobe.com/xap/1.0/\0") (codes "AB")
+    ++ (portion 80 0 (codes "abc") ++ (portion 79 3 (codes "de") ++ 255 ∷ 217 ∷ [])))
+
+abbrev pub packet : Form → ℕ → ℕ → Packet
+packet form offset len = record { form = form; offset = offset; len = len }
+
+packets_of_a_file : packets file
+    ≡ Some (packet Xmp 35 2 ∷ packet XmpPortion 76 43 ∷ packet XmpPortion 158 42 ∷ [])
+unfolding walked stream_piece
+packets_of_a_file = refl
+
+portions_in_order :
+    joined file (packet Xmp 35 2 ∷ packet XmpPortion 76 43 ∷ packet XmpPortion 158 42 ∷ []) id
+    ≡ Ok (codes "abcde")
+portions_in_order = refl
+
+the_second_is_first :
+    joined file (packet XmpPortion 158 42 ∷ packet XmpPortion 76 43 ∷ []) id ≡ Err 0
+the_second_is_first = refl
+
+the_second_is_missing : joined file (packet XmpPortion 76 43 ∷ []) id ≡ Err 3
+the_second_is_missing = refl
+
+the_first_twice :
+    joined file (packet XmpPortion 76 43 ∷ packet XmpPortion 76 43 ∷ []) id ≡ Err 3
+the_first_twice = refl
+
+portions_of_another_packet :
+    joined file (packet XmpPortion 76 43 ∷ packet XmpPortion 158 42 ∷ []) other_id ≡ Err 0
+portions_of_another_packet = refl
