@@ -1,7 +1,9 @@
 -- Worked packets: a JPEG file with an XMP packet and two portions of the rest of it.
-use Rattle.std.specs.Prelude.{◌≡◌, refl, ℕ, List, [], ◌∷◌, ◌++◌, codes, replicate, Ok, Err, Some}
+use Rattle.std.specs.Prelude.{◌≡◌, refl, ℕ, List, [], ◌∷◌, ◌++◌, false, true, codes, replicate, Ok, Err, Some}
 use Rattle.exif_inventory.specs.JpegPieces.{stream_piece}
 use Rattle.exif_inventory.specs.Walks.{walked}
+use Rattle.exif_types.specs.declared.value.Value.TheVariants as value
+use Rattle.exif_packets.specs.Fields.{value_bytes}
 use Rattle.exif_packets.specs.Packets.{packets}
 use Rattle.exif_packets.specs.Portions.{joined}
 use Rattle.exif_packets.specs.declared.packet.Form.{Form}
@@ -58,3 +60,14 @@ the_first_twice = refl
 portions_of_another_packet :
     joined file (packet XmpPortion 76 43 ∷ packet XmpPortion 158 42 ∷ []) other_id ≡ Err 0
 portions_of_another_packet = refl
+
+-- IPTC data as 32-bit numbers: the header of the dataset 2:5 with three bytes, in either order
+longs_in_the_order_of_the_data :
+    value_bytes false (value.Long (0x1c020500 ∷ 0x03616263 ∷ []))
+    ≡ Some (0x1c ∷ 2 ∷ 5 ∷ 0 ∷ 3 ∷ codes "abc")
+longs_in_the_order_of_the_data = refl
+
+longs_of_little_endian_data :
+    value_bytes true (value.Long (0x0005021c ∷ 0x63626103 ∷ []))
+    ≡ Some (0x1c ∷ 2 ∷ 5 ∷ 0 ∷ 3 ∷ codes "abc")
+longs_of_little_endian_data = refl

@@ -1,3 +1,4 @@
 pub mod Examples
+pub mod Fields
 pub mod Packets
 pub mod Portions
