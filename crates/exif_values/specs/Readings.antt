@@ -1,0 +1,87 @@
+-- The packets of a picture, read.
+use Rattle.std.specs.Prelude.{ℕ, Bool, List, [], ◌∷◌, Option, None, Some, Result, Ok, Err}
+use Rattle.std.specs.Option.{option_map}
+use Rattle.exif_packets.specs.Fields.{Held, packets_of_fields}
+use Rattle.exif_packets.specs.Packets.{content_of, packets}
+use Rattle.exif_packets.specs.Portions.{joined}
+use Rattle.exif_packets.specs.declared.packet.Form.{Form}
+use Rattle.exif_packets.specs.declared.packet.Form.TheVariants.{Xmp, XmpPortion, Iptc}
+use Rattle.exif_packets.specs.declared.packet.Packet.{Packet}
+use Rattle.exif_types.specs.declared.field.Field.{Field}
+use Rattle.exif_xmp.specs.Properties.{PropertyView}
+use Rattle.exif_xmp.specs.Reading as xmp
+use Rattle.exif_xmp.specs.declared.fault.Refusal.{Refusal}
+use Rattle.exif_values.specs.Extensions.{extension_id}
+use Rattle.exif_values.specs.Values.{Found, nothing, with_fault, with_iptc, with_properties}
+use Rattle.exif_values.specs.declared.fault.Cause.TheVariants as cause
+
+-- with the properties of a packet of which this is read
+abbrev pub with_answer : Result (List PropertyView) Refusal → Option ℕ → Found → Found
+with_answer (Ok properties) offset found = with_properties properties found
+with_answer (Err refusal) offset found = with_fault (cause.Xmp refusal) offset found
+
+-- with those of an XMP packet
+abbrev pub with_xmp : Option ℕ → List ℕ → Found → Found
+with_xmp offset content found = with_answer (xmp.read content) offset found
+
+-- with those of the rest of a packet
+abbrev pub with_joined : Result (List ℕ) ℕ → Option ℕ → Found → Found
+with_joined (Ok rest) offset found = with_xmp offset rest found
+with_joined (Err at) offset found = with_fault (cause.Portions at) offset found
+
+abbrev pub with_extension : List ℕ → List Packet → List ℕ → Option ℕ → Found → Found
+with_extension file all id offset found = with_joined (joined file all id) offset found
+
+-- the same, if there is a rest
+abbrev pub with_rest : List ℕ → List Packet → Option (List ℕ) → Option ℕ → Found → Found
+with_rest file all None offset found = found
+with_rest file all (Some id) offset found = with_extension file all id offset found
+
+-- with the properties of a packet of which this is read, and of its rest
+abbrev pub with_whole : List ℕ → List Packet → Result (List PropertyView) Refusal → Option ℕ
+    → Found → Found
+with_whole file all (Ok properties) offset found =
+    with_rest file all (extension_id properties) offset (with_properties properties found)
+with_whole file all (Err refusal) offset found = with_fault (cause.Xmp refusal) offset found
+
+abbrev pub with_main : List ℕ → List Packet → Packet → Found → Found
+with_main file all packet found =
+    with_whole file all (xmp.read (content_of packet file)) (Some packet.offset) found
+
+-- with what a packet has; portions are read with the packet that names them
+abbrev pub with_form : Form → List ℕ → List Packet → Packet → Found → Found
+with_form Xmp file all packet found = with_main file all packet found
+with_form Iptc file all packet found =
+    with_iptc (Some packet.offset) (content_of packet file) found
+with_form XmpPortion file all packet found = found
+
+abbrev pub with_packet : List ℕ → List Packet → Packet → Found → Found
+with_packet file all packet found = with_form packet.form file all packet found
+
+-- with what packets have, one after another
+abbrev pub with_packets : List ℕ → List Packet → List Packet → Found → Found
+with_packets file all [] found = found
+with_packets file all (packet ∷ rest) found =
+    with_packets file all rest (with_packet file all packet found)
+
+-- what the packets of a file have
+abbrev pub read : List ℕ → Option Found
+read file = option_map (λ all. with_packets file all all nothing) (packets file)
+
+-- with what a packet in the value of a field has
+abbrev pub with_held : Form → List ℕ → Found → Found
+with_held Xmp content found = with_xmp None content found
+with_held Iptc content found = with_iptc None content found
+with_held XmpPortion content found = found
+
+abbrev pub with_field_packet : Held → Found → Found
+with_field_packet held found = with_held held.form held.content found
+
+-- with what packets in values have, one after another
+abbrev pub with_held_packets : List Held → Found → Found
+with_held_packets [] found = found
+with_held_packets (held ∷ rest) found = with_held_packets rest (with_field_packet held found)
+
+-- with what the fields have
+abbrev pub with_fields : Bool → List Field → Found → Found
+with_fields little fields found = with_held_packets (packets_of_fields little fields) found

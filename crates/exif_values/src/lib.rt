@@ -1,0 +1,15 @@
+//! The XMP properties and the IPTC values of a picture.
+//!
+//! [`read`] reads the packets of a JPEG, WebP, PNG, JPEG XL, HEIF or AVIF file, and [`read_fields`]
+//! those in the values of fields, as TIFF and raw files have them. Both add to [`Values`]; what is
+//! not read is named in it.
+#![tactic(auto)]
+
+mod extension;
+mod fault;
+mod reading;
+mod values;
+
+pub use fault::{Cause, Fault};
+pub use reading::{read, read_fields};
+pub use values::Values;

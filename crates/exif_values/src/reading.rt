@@ -1,0 +1,168 @@
+//! The packets of a picture, read.
+
+ghost use Rattle.std.specs.Prelude.{◌≡◌, IfOk, OnOk};
+ghost use Rattle.std.specs.Option.{option_map};
+ghost use Rattle.exif_packets.specs.Fields.{held_view};
+ghost use Rattle.exif_values.specs.Readings.{read, with_extension, with_field_packet, with_fields, with_main, with_packet, with_packets, with_rest, with_xmp};
+ghost use Rattle.exif_values.specs.Values.{nothing, values_view};
+
+use crate::extension::extension_id;
+use crate::fault::Cause;
+use crate::values::Values;
+use exif_packets::{
+    FieldPacket, Form, JoinError, Packet, content_of, joined, packets, packets_of_fields,
+};
+use exif_types::Exif;
+use exif_xmp::ReadError;
+use std::alloc::{AllocError, Global};
+
+// Adds the properties of an XMP packet.
+fn add_xmp(
+    alloc: Global,
+    offset: Option<usize>,
+    content: &[u8],
+    values: &mut Values,
+) -> Result<(), AllocError>
+    ensures { OnOk result (values_view values.new
+        ≡ with_xmp offset content.now (values_view values.old)) }
+{
+    match exif_xmp::read(alloc, content) {
+        Ok(properties) => values.add_properties(properties),
+        Err(ReadError::Refused(refusal)) => values.add_fault(Cause::Xmp(refusal), offset),
+        Err(ReadError::OutOfMemory) => Err(AllocError),
+    }
+}
+
+// Adds the properties of the rest of a packet, whose portions have this identifier.
+fn add_extension(
+    alloc: Global,
+    file: &[u8],
+    packets: &[Packet],
+    id: &[u8],
+    offset: Option<usize>,
+    values: &mut Values,
+) -> Result<(), AllocError>
+    ensures { OnOk result (values_view values.new
+        ≡ with_extension file.now packets.now id.now offset (values_view values.old)) }
+{
+    match joined(alloc, file, packets, id) {
+        Ok(rest) => add_xmp(alloc, offset, rest.as_slice(), values),
+        Err(JoinError::Missing(at)) => values.add_fault(Cause::Portions(at), offset),
+        Err(JoinError::OutOfMemory) => Err(AllocError),
+    }
+}
+
+// The same, if there is a rest.
+fn add_rest(
+    alloc: Global,
+    file: &[u8],
+    packets: &[Packet],
+    id: Option<Vec<u8>>,
+    offset: Option<usize>,
+    values: &mut Values,
+) -> Result<(), AllocError>
+    ensures { OnOk result (values_view values.new
+        ≡ with_rest file.now packets.now (option_map (λ v. v.items) id.entry) offset
+        (values_view values.old)) }
+{
+    match id {
+        Some(id) => add_extension(alloc, file, packets, id.as_slice(), offset, values),
+        None => Ok(()),
+    }
+}
+
+// Adds the properties of a packet of a file, and of the rest of it.
+fn add_main(
+    alloc: Global,
+    file: &[u8],
+    packets: &[Packet],
+    packet: Packet,
+    values: &mut Values,
+) -> Result<(), AllocError>
+    ensures { OnOk result (values_view values.new
+        ≡ with_main file.now packets.now packet (values_view values.old)) }
+{
+    let offset = Some(packet.offset);
+    match exif_xmp::read(alloc, content_of(packet, file)) {
+        Ok(properties) => {
+            let id = extension_id(alloc, properties.as_slice())?;
+            values.add_properties(properties)?;
+            add_rest(alloc, file, packets, id, offset, values)
+        }
+        Err(ReadError::Refused(refusal)) => values.add_fault(Cause::Xmp(refusal), offset),
+        Err(ReadError::OutOfMemory) => Err(AllocError),
+    }
+}
+
+// Adds what a packet of a file has.
+fn add_packet(
+    alloc: Global,
+    file: &[u8],
+    packets: &[Packet],
+    packet: Packet,
+    values: &mut Values,
+) -> Result<(), AllocError>
+    ensures { OnOk result (values_view values.new
+        ≡ with_packet file.now packets.now packet (values_view values.old)) }
+{
+    match packet.form {
+        Form::Xmp => add_main(alloc, file, packets, packet, values),
+        Form::Iptc => values.add_iptc(alloc, Some(packet.offset), content_of(packet, file)),
+        Form::XmpPortion => Ok(()),
+    }
+}
+
+// What the packets of a file have.
+fn read_packets(alloc: Global, file: &[u8], packets: &[Packet]) -> Result<Values, AllocError>
+    ensures { IfOk result (λ values. values_view values
+        ≡ with_packets file.now packets.now packets.now nothing) }
+{
+    let mut values = Values::new(alloc);
+    for packet in packets {
+        add_packet(alloc, file, packets, *packet, &mut values)?;
+    }
+    Ok(values)
+}
+
+/// The XMP properties and the IPTC values of a JPEG, WebP, PNG, JPEG XL, HEIF or AVIF file, in the
+/// order of its packets, each with the rest of it where it is longer than a segment; and what is
+/// not read. `None` for a file of another format.
+///
+/// It takes the memory of the properties and values, and of the list of the file's parts.
+pub fn read(alloc: Global, file: &[u8]) -> Result<Option<Values>, AllocError>
+    ensures { IfOk result (λ found. option_map values_view found ≡ read file.now) }
+{
+    match packets(alloc, file)? {
+        Some(packets) => Ok(Some(read_packets(alloc, file, packets.as_slice())?)),
+        None => Ok(None),
+    }
+}
+
+// Adds what a packet in the value of a field has.
+fn add_field_packet(
+    alloc: Global,
+    packet: &FieldPacket,
+    values: &mut Values,
+) -> Result<(), AllocError>
+    ensures { OnOk result (values_view values.new
+        ≡ with_field_packet (held_view packet.now) (values_view values.old)) }
+{
+    match packet.form {
+        Form::Xmp => add_xmp(alloc, None, packet.content.as_slice(), values),
+        Form::Iptc => values.add_iptc(alloc, None, packet.content.as_slice()),
+        Form::XmpPortion => Ok(()),
+    }
+}
+
+/// Adds the XMP properties and the IPTC values in the values of fields, as TIFF and raw files have
+/// them: see [`packets_of_fields`]. After an error some of them may be added.
+pub fn read_fields(alloc: Global, exif: &Exif, values: &mut Values) -> Result<(), AllocError>
+    ensures { OnOk result (values_view values.new
+        ≡ with_fields exif.now.little_endian exif.now.fields (values_view values.old)) }
+{
+    let packets = packets_of_fields(alloc, exif)?;
+    for packet in &packets {
+        add_field_packet(alloc, packet, values)?;
+    }
+    Ok(())
+}
