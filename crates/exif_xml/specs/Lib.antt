@@ -1,0 +1,9 @@
+pub mod Attributes
+pub mod Examples
+pub mod FaultTexts
+pub mod Names
+pub mod Prefixes
+pub mod Refusals
+pub mod Scans
+pub mod Texts
+pub mod Tokens

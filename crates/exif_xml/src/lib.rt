@@ -1,0 +1,27 @@
+//! XML 1.0 with namespaces, as far as XMP packets need it: tokens, attributes, names and text.
+//!
+//! The functions work on UTF-8 bytes in memory and need no tree of a document. [`token_at`] is the
+//! next token of a document, [`attributes`] lists the attributes of a start tag, [`resolve`] finds
+//! the namespace of a name, and [`text_of`] decodes character data and attribute values.
+//!
+//! The checks are those that a reader of untrusted files needs, and fewer than a validating parser
+//! has: a document type is refused, so no entity is ever expanded, and each refusal has its
+//! offset. Bytes are not checked to be UTF-8 or characters of XML 1.0, section 2.2.
+#![tactic(auto)]
+
+pub mod attribute;
+pub mod fault;
+pub mod name;
+pub mod prefix;
+pub mod scan;
+pub mod span;
+pub mod text;
+pub mod token;
+
+pub use attribute::{Attribute, attributes};
+pub use fault::{Fault, ReadError, Refusal};
+pub use name::{Binding, Name, resolve, with_bindings};
+pub use prefix::usual_prefix;
+pub use span::{Span, slice_of};
+pub use text::text_of;
+pub use token::{Kind, Token, token_at};
