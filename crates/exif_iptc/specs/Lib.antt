@@ -1,0 +1,9 @@
+pub mod Charsets
+pub mod Datasets
+pub mod FaultTexts
+pub mod Numbers
+pub mod Refusals
+pub mod RowViews
+pub mod Rows
+pub mod Texts
+pub mod Views
