@@ -8,15 +8,20 @@
 pub mod charset;
 pub mod dataset;
 pub mod fault;
+mod form;
 pub mod header;
 pub mod kind;
 pub mod names;
 mod number;
+pub mod reading;
 pub mod text;
+pub mod value;
 
 pub use charset::{Charset, charset_of};
 pub use dataset::{Dataset, Scanned, datasets, scan, value_bytes};
 pub use fault::{Fault, ReadError, Refusal};
 pub use kind::Kind;
 pub use names::{kind_of, name_of};
+pub use reading::{Reading, read, read_lenient};
 pub use text::text_of;
+pub use value::{Content, Value, value_of, values_of};

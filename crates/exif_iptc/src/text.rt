@@ -1,7 +1,7 @@
 //! Texts of values.
 
 ghost use Rattle.std.specs.Prelude.{◌≡◌, encode_utf8_all, map, string_bytes, IfOk};
-ghost use Rattle.exif_iptc.specs.Texts.{latin_char, text_of, windows_1252, without_zeros};
+ghost use Rattle.exif_iptc.specs.Texts.{decoded, latin_char, text_of, windows_1252, without_zeros};
 
 use crate::charset::Charset;
 use std::alloc::{AllocError, Global};
@@ -53,6 +53,16 @@ pub fn without_zeros(bytes: &[u8]) -> &[u8]
     &bytes[..end]
 }
 
+/// The text of bytes in a character set. What is not UTF-8 in a text that should be becomes U+FFFD.
+pub(crate) fn decoded(alloc: Global, charset: Charset, bytes: &[u8]) -> Result<String, AllocError>
+    ensures { IfOk result (λ t. string_bytes t ≡ decoded charset bytes.now) }
+{
+    match charset {
+        Charset::Utf8 => String::from_utf8_lossy(alloc, bytes),
+        Charset::Latin1 | Charset::Unknown => latin_text(alloc, bytes),
+    }
+}
+
 /// The text of a value in a character set, without zeros at its end. What is not UTF-8 in a text
 /// that should be becomes U+FFFD.
 ///
@@ -62,9 +72,5 @@ pub fn without_zeros(bytes: &[u8]) -> &[u8]
 pub fn text_of(alloc: Global, charset: Charset, value: &[u8]) -> Result<String, AllocError>
     ensures { IfOk result (λ t. string_bytes t ≡ text_of charset value.now) }
 {
-    let bytes = without_zeros(value);
-    match charset {
-        Charset::Utf8 => String::from_utf8_lossy(alloc, bytes),
-        Charset::Latin1 | Charset::Unknown => latin_text(alloc, bytes),
-    }
+    decoded(alloc, charset, without_zeros(value))
 }
