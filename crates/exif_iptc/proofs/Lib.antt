@@ -1,0 +1,3 @@
+pub mod BigEndian
+pub mod Scans
+pub mod TextSteps

@@ -1,0 +1,12 @@
+pub mod Charsets
+pub mod Datasets
+pub mod FaultTexts
+pub mod Forms
+pub mod Numbers
+pub mod Readings
+pub mod Refusals
+pub mod RowViews
+pub mod Rows
+pub mod Texts
+pub mod Values
+pub mod Views
