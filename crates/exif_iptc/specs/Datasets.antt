@@ -75,7 +75,8 @@ pub record ScanOutcome : Type 0 where
   pub refusal : Option Refusal
 
 -- what follows from the next dataset: the end of the data, a refusal, or what is found behind it
-abbrev pub after : ℕ → List Dataset → (Header → ScanOutcome) → Result (Option Header) Fault → ScanOutcome
+abbrev pub after : ℕ → List Dataset → (Header → ScanOutcome) → Result (Option Header) Fault
+    → ScanOutcome
 after offset found behind (Ok None) = record { datasets = found; refusal = None }
 after offset found behind (Ok (Some h)) = behind h
 after offset found behind (Err f) =
@@ -86,18 +87,20 @@ unfoldable pub scan_by : ℕ → ℕ → List Dataset → List ℕ → ScanOutco
 scan_by zero offset found left = record { datasets = found; refusal = None }
 scan_by (suc n) offset found left =
     after offset found
-    (λ h. scan_by n (offset + h.len) (found ++ placed offset h ∷ []) (drop h.len left)) (next_at left)
+    (λ h. scan_by n (offset + h.len) (found ++ placed offset h ∷ []) (drop h.len left))
+    (next_at left)
 
 -- the datasets of IPTC data; zeros may follow them. Each has five bytes or more, so there are fewer
 -- of them than bytes
 abbrev pub scan : List ℕ → ScanOutcome
 scan input = scan_by (length input) 0 [] input
 
--- the datasets of data in which nothing is refused
+-- what was read, if nothing is refused
 abbrev pub all_read : {A : Type 0} → A → Option Refusal → Result A Refusal
 all_read x None = Ok x
 all_read x (Some r) = Err r
 
+-- the datasets of data in which nothing is refused
 abbrev pub datasets : List ℕ → Result (List Dataset) Refusal
 datasets input = let s = scan input in all_read s.datasets s.refusal
 

@@ -23,7 +23,9 @@ colon left right = left ++ 58 ∷ right
 -- CCYY:MM:DD
 abbrev pub separated_date : List ℕ → List ℕ
 separated_date bytes =
-    if is_date bytes then colon (take 4 bytes) (colon (take 2 (drop 4 bytes)) (drop 6 bytes)) else bytes
+    if is_date bytes
+    then colon (take 4 bytes) (colon (take 2 (drop 4 bytes)) (drop 6 bytes))
+    else bytes
 
 -- HH:MM:SS+HH:MM
 abbrev pub separated_time : List ℕ → List ℕ

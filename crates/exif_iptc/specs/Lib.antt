@@ -1,5 +1,6 @@
 pub mod Charsets
 pub mod Datasets
+pub mod Examples
 pub mod FaultTexts
 pub mod Forms
 pub mod Numbers

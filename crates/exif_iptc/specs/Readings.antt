@@ -17,11 +17,19 @@ abbrev pub read_lenient : List ℕ → ReadOutcome
 read_lenient input =
     let s = scan input in
     let charset = charset_of input s.datasets in
-    record { values = map (value_of input charset) s.datasets; charset = charset; refusal = s.refusal }
+    record {
+      values = map (value_of input charset) s.datasets;
+      charset = charset;
+      refusal = s.refusal;
+    }
 
 -- the values of data in which nothing is refused
 abbrev pub read : List ℕ → Result (List DatasetValue) Refusal
 read input = let r = read_lenient input in all_read r.values r.refusal
 
 abbrev pub reading_view : Reading → ReadOutcome
-reading_view r = record { values = map value_view r.values.items; charset = r.charset; refusal = r.refusal }
+reading_view r = record {
+  values = map value_view r.values.items;
+  charset = r.charset;
+  refusal = r.refusal;
+}

@@ -1,5 +1,5 @@
--- The datasets of IIM 4.2 (chapters 5 to 9) and of the Digital Newsphoto Parameter Record (record 3),
--- with the names under which exiftool shows them.
+-- The datasets of IIM 4.2 (chapters 5 to 9) and of the Digital Newsphoto Parameter Record (record
+-- 3), with the names under which exiftool shows them.
 use Rattle.std.specs.Prelude.{ℕ, ◌==◌, if◌then◌else◌, List, [], ◌∷◌, Option, Some, None, codes}
 use Rattle.std.specs.List.{find}
 use Rattle.std.specs.Option.{option_map}

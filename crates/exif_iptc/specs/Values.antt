@@ -30,7 +30,8 @@ pub record DatasetValue : Type 0 where
 -- what a value of a kind says, if texts are in a character set
 abbrev pub content_of : Charset → Kind → List ℕ → ValueContent
 content_of charset K.Text value = TextIs (text_of charset value)
-content_of charset K.Number value = if nat_lt 8 (length value) then BytesAre value else NumberIs (big_endian value)
+content_of charset K.Number value =
+    if nat_lt 8 (length value) then BytesAre value else NumberIs (big_endian value)
 content_of charset K.Date value = TextIs (decoded charset (separated_date (without_zeros value)))
 content_of charset K.Time value = TextIs (decoded charset (separated_time (without_zeros value)))
 content_of charset K.Bytes value = BytesAre value

@@ -4,6 +4,7 @@ ghost use Rattle.std.specs.Prelude.{◌≡◌};
 ghost use Rattle.exif_iptc.specs.Charsets.{charset_named, charset_of, names_charset};
 
 use crate::dataset::{Dataset, value_bytes};
+use crate::text::without_zeros;
 
 /// In which characters the texts of IPTC data are.
 #[derive(Clone, Copy, Debug, PartialEq, Eq)]
@@ -11,7 +12,7 @@ pub enum Charset {
     /// No dataset 1:90 says it. The texts are read as Latin-1, with the characters of Windows code
     /// page 1252 from `80` to `9f`, which are control characters in Latin-1.
     Latin1,
-    /// UTF-8, by the escape sequence ESC % G.
+    /// UTF-8, by the escape sequence ESC % G; zeros may follow it.
     Utf8,
     /// Another escape sequence. The texts are read as with `Latin1`, and may be others.
     Unknown,
@@ -28,7 +29,7 @@ fn names_charset(dataset: Dataset) -> bool
 fn charset_named(value: &[u8]) -> Charset
     ensures { result ≡ charset_named value.now }
 {
-    if value == b"\x1b%G".as_slice() {
+    if without_zeros(value) == b"\x1b%G".as_slice() {
         return Charset::Utf8;
     }
     Charset::Unknown

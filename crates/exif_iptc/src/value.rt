@@ -128,7 +128,8 @@ pub fn values_of(
     charset: Charset,
     datasets: &[Dataset],
 ) -> Result<Vec<Value>, AllocError>
-    ensures { IfOk result (λ vs. map value_view vs.items ≡ map (value_of input.now charset) datasets.now) }
+    ensures { IfOk result (λ v. map value_view v.items
+        ≡ map (value_of input.now charset) datasets.now) }
 {
     let mut values = Vec::new(alloc);
     for i in 0..datasets.len() {
