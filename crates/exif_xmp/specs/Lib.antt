@@ -1,0 +1,11 @@
+pub mod Characters
+pub mod Elements
+pub mod Examples
+pub mod FaultTexts
+pub mod Fields
+pub mod Paths
+pub mod Properties
+pub mod Reading
+pub mod Refusals
+pub mod Roles
+pub mod States
