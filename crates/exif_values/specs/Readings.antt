@@ -1,9 +1,10 @@
 -- The packets of a picture, read.
-use Rattle.std.specs.Prelude.{ℕ, Bool, List, [], ◌∷◌, Option, None, Some, Result, Ok, Err}
+use Rattle.std.specs.Prelude.{ℕ, ◌&&◌, not, Bool, List, [], ◌∷◌, Option, None, Some, Result, Ok, Err, if◌then◌else◌}
+use Rattle.std.specs.List.{list_any}
 use Rattle.std.specs.Option.{option_map}
 use Rattle.exif_packets.specs.Fields.{Held, packets_of_fields}
 use Rattle.exif_packets.specs.Packets.{content_of, packets}
-use Rattle.exif_packets.specs.Portions.{joined}
+use Rattle.exif_packets.specs.Portions.{is_portion, joined}
 use Rattle.exif_packets.specs.declared.packet.Form.{Form}
 use Rattle.exif_packets.specs.declared.packet.Form.TheVariants.{Xmp, XmpPortion, Iptc}
 use Rattle.exif_packets.specs.declared.packet.Packet.{Packet}
@@ -11,7 +12,7 @@ use Rattle.exif_types.specs.declared.field.Field.{Field}
 use Rattle.exif_xmp.specs.Properties.{PropertyView}
 use Rattle.exif_xmp.specs.Reading as xmp
 use Rattle.exif_xmp.specs.declared.fault.Refusal.{Refusal}
-use Rattle.exif_values.specs.Extensions.{extension_id}
+use Rattle.exif_values.specs.Extensions.{extension_id, names_one}
 use Rattle.exif_values.specs.Values.{Found, nothing, with_fault, with_iptc, with_properties}
 use Rattle.exif_values.specs.declared.fault.Cause.TheVariants as cause
 
@@ -64,9 +65,22 @@ with_packets file all [] found = found
 with_packets file all (packet ∷ rest) found =
     with_packets file all rest (with_packet file all packet found)
 
+-- whether there are portions that no packet names
+abbrev pub has_strays : List Packet → Found → Bool
+has_strays all found = list_any (λ p. is_portion p.form) all && not (names_one found.xmp)
+
+-- with those named: all of their packet is missing
+abbrev pub with_strays : List Packet → Found → Found
+with_strays all found =
+    if has_strays all found then with_fault (cause.Portions 0) None found else found
+
+-- what these packets of a file have
+abbrev pub read_all : List ℕ → List Packet → Found
+read_all file all = with_strays all (with_packets file all all nothing)
+
 -- what the packets of a file have
 abbrev pub read : List ℕ → Option Found
-read file = option_map (λ all. with_packets file all all nothing) (packets file)
+read file = option_map (read_all file) (packets file)
 
 -- with what a packet in the value of a field has
 abbrev pub with_held : Form → List ℕ → Found → Found

@@ -2,7 +2,7 @@
 
 ghost use Rattle.std.specs.Prelude.{◌≡◌, map, IfOk};
 ghost use Rattle.std.specs.Option.{option_map};
-ghost use Rattle.exif_values.specs.Extensions.{extension_id, names_extension};
+ghost use Rattle.exif_values.specs.Extensions.{extension_id, names_extension, names_one};
 ghost use Rattle.exif_xmp.specs.Properties.{property_view};
 
 use exif_xmp::Property;
@@ -17,10 +17,7 @@ fn names_extension(property: &Property) -> bool
 }
 
 /// The identifier of the portions of the rest of a packet with these properties.
-pub fn extension_id(
-    alloc: Global,
-    properties: &[Property],
-) -> Result<Option<Vec<u8>>, AllocError>
+pub fn extension_id(alloc: Global, properties: &[Property]) -> Result<Option<Vec<u8>>, AllocError>
     ensures { IfOk result (λ id. option_map (λ v. v.items) id
         ≡ extension_id (map property_view properties.now)) }
 {
@@ -30,4 +27,16 @@ pub fn extension_id(
         }
     }
     Ok(None)
+}
+
+/// Whether one of these properties names the rest of a packet.
+pub fn names_one(properties: &[Property]) -> bool
+    ensures { result ≡ names_one (map property_view properties.now) }
+{
+    for property in properties {
+        if names_extension(property) {
+            return true;
+        }
+    }
+    false
 }

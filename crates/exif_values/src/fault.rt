@@ -1,7 +1,7 @@
 //! What is not read of the metadata of a picture.
 
-use exif_xmp::Refusal as XmpRefusal;
 use exif_iptc::Refusal as IptcRefusal;
+use exif_xmp::Refusal as XmpRefusal;
 
 /// Why a packet, or bytes of one, are not read.
 #[derive(Clone, Copy, Debug, PartialEq, Eq)]

@@ -1,12 +1,14 @@
 //! The packets of a picture, read.
 
 ghost use Rattle.std.specs.Prelude.{◌≡◌, IfOk, OnOk};
+ghost use Rattle.std.specs.List.{list_any};
 ghost use Rattle.std.specs.Option.{option_map};
 ghost use Rattle.exif_packets.specs.Fields.{held_view};
-ghost use Rattle.exif_values.specs.Readings.{read, with_extension, with_field_packet, with_fields, with_main, with_packet, with_packets, with_rest, with_xmp};
-ghost use Rattle.exif_values.specs.Values.{nothing, values_view};
+ghost use Rattle.exif_packets.specs.Portions.{is_portion};
+ghost use Rattle.exif_values.specs.Readings.{read, read_all, with_extension, with_field_packet, with_fields, with_main, with_packet, with_rest, with_strays, with_xmp};
+ghost use Rattle.exif_values.specs.Values.{values_view};
 
-use crate::extension::extension_id;
+use crate::extension::{extension_id, names_one};
 use crate::fault::Cause;
 use crate::values::Values;
 use exif_packets::{
@@ -62,7 +64,7 @@ fn add_rest(
     values: &mut Values,
 ) -> Result<(), AllocError>
     ensures { OnOk result (values_view values.new
-        ≡ with_rest file.now packets.now (option_map (λ v. v.items) id.entry) offset
+        ≡ with_rest file.now packets.now (option_map (λ v. v.items) id) offset
         (values_view values.old)) }
 {
     match id {
@@ -112,15 +114,36 @@ fn add_packet(
     }
 }
 
+// Whether there are portions of a long packet.
+fn has_portions(packets: &[Packet]) -> bool
+    ensures { result ≡ list_any (λ p. is_portion p.form) packets.now }
+{
+    packets
+        .iter()
+        .any(|packet| matches!(packet.form, Form::XmpPortion))
+}
+
+// Names portions that no packet of the file names.
+fn name_strays(packets: &[Packet], values: &mut Values) -> Result<(), AllocError>
+    ensures { OnOk result (values_view values.new
+        ≡ with_strays packets.now (values_view values.old)) }
+{
+    if has_portions(packets) && !names_one(values.xmp.as_slice()) {
+        return values.add_fault(Cause::Portions(0), None);
+    }
+    Ok(())
+}
+
 // What the packets of a file have.
 fn read_packets(alloc: Global, file: &[u8], packets: &[Packet]) -> Result<Values, AllocError>
     ensures { IfOk result (λ values. values_view values
-        ≡ with_packets file.now packets.now packets.now nothing) }
+        ≡ read_all file.now packets.now) }
 {
     let mut values = Values::new(alloc);
     for packet in packets {
         add_packet(alloc, file, packets, *packet, &mut values)?;
     }
+    name_strays(packets, &mut values)?;
     Ok(values)
 }
 

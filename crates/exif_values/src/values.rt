@@ -1,13 +1,12 @@
 //! What was read of the packets of a picture.
 
-ghost use Rattle.std.specs.Prelude.{◌≡◌, OnOk};
-ghost use Rattle.exif_values.specs.Values.{nothing, values_view, with_fault, with_iptc, with_properties, with_xmp};
+ghost use Rattle.std.specs.Prelude.{◌≡◌, map, OnOk};
+ghost use Rattle.exif_values.specs.Values.{nothing, values_view, with_fault, with_iptc, with_properties};
 ghost use Rattle.exif_xmp.specs.Properties.{property_view};
-ghost use Rattle.std.specs.Prelude.{map};
 
 use crate::fault::{Cause, Fault};
 use exif_iptc::{Value, read_lenient};
-use exif_xmp::{Property, ReadError};
+use exif_xmp::Property;
 use std::alloc::{AllocError, Global};
 
 /// The XMP properties and the IPTC values of a picture, in the order of its packets, and what was
@@ -37,10 +36,7 @@ impl Values {
     }
 
     // Adds properties.
-    pub(crate) fn add_properties(
-        &mut self,
-        mut properties: Vec<Property>,
-    ) -> Result<(), AllocError>
+    pub(crate) fn add_properties(&mut self, mut properties: Vec<Property>) -> Result<(), AllocError>
         ensures { OnOk result (values_view self.new
             ≡ with_properties (map property_view properties.items) (values_view self.old)) }
     {

@@ -7,5 +7,5 @@ use Rattle.exif_values.proofs.reading.read_fields.Given as goal
 -- the packets that are left add what all of them do
 abbrev pub invariant-loop-packet : goal.invariant-loop-packet
 invariant-loop-packet l =
-    with_held_packets (map held_view (drop l.packet-index l.packets.items)) (values_view l.values)
+    with_held_packets (map held_view (drop l.packet-index l.packet-items)) (values_view l.values)
     ≡ with_fields l.fn.exif.little_endian l.fn.exif.fields (values_view l.fn.values)
