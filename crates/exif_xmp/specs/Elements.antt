@@ -1,9 +1,10 @@
 -- Elements that begin and end (Extensible Markup Language 1.0, 3; Namespaces in XML 1.0, 6).
-use Rattle.std.specs.Prelude.{ℕ, ◌+◌, ◌-◌, ◌^◌, ◌||◌, nat_le, nat_lt, Bool, true, false, if◌then◌else◌, List, [], ◌∷◌, ◌++◌, length, take, slice_get, Option, Some, None, is_some, Result, Ok, Err}
+use Rattle.std.specs.Prelude.{ℕ, ◌+◌, ◌-◌, ◌==◌, ◌^◌, ◌||◌, nat_le, nat_lt, Bool, true, false, if◌then◌else◌, List, [], ◌∷◌, ◌++◌, length, take, slice_get, Option, Some, None, is_some, Result, Ok, Err}
 use Rattle.std.specs.Str.{bytes_eq}
 use Rattle.exif_xml.specs.declared.attribute.Attribute.{Attribute}
 use Rattle.exif_xml.specs.declared.fault.Fault.TheVariants as xml_faults
 use Rattle.exif_xml.specs.declared.name.Binding.{Binding}
+use Rattle.exif_xml.specs.declared.span.Span.{Span}
 use Rattle.exif_xml.specs.Attributes.{attributes}
 use Rattle.exif_xml.specs.Names.{resolve, with_bindings}
 use Rattle.exif_xml.specs.Refusals.{◌>>=◌}
@@ -53,9 +54,15 @@ child_in Node top = top
 abbrev pub with_child : Frame → Frame
 with_child top = child_in top.role top
 
+-- the language of an element: its own `xml:lang`, where an empty one means none, or else that of
+-- the element that contains it (Extensible Markup Language 1.0, 2.12)
+abbrev pub language_in : Option Span → Option Span → Option Span
+language_in None outer = outer
+language_in (Some own) outer = if own.start == own.end then None else Some own
+
 -- a property with attributes that are properties has no text
-abbrev pub element_as : StartTag → ℕ → Step → Facts → Role → Element
-element_as tag outer step facts role = record {
+abbrev pub element_as : StartTag → ℕ → Step → Facts → Option Span → Role → Element
+element_as tag outer step facts language role = record {
   frame = record {
     role = role;
     tag = tag.name;
@@ -66,7 +73,7 @@ element_as tag outer step facts role = record {
     has_text = false;
     start = tag.start;
     content = tag.content;
-    language = facts.language;
+    language = language;
   };
   facts = facts;
 }
@@ -78,7 +85,7 @@ unfoldable pub element_of : List ℕ → Frame → ℕ → List Binding → List
 element_of packet top outer bs as' tag =
     of_xml (resolve packet bs tag.name) >>= λ name. (child_of packet top name >>= λ child.
     (facts_of packet bs as' >>= λ facts. (frame_role packet child.role facts >>= λ role.
-    Ok (element_as tag outer child.step facts role))))
+    Ok (element_as tag outer child.step facts (language_in facts.language top.language) role))))
 
 -- the state in an element that begins in the open one
 abbrev pub push_element : Frame → List Frame → List Binding → List PropertyView → Frame → StateView

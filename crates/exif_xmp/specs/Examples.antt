@@ -1,5 +1,5 @@
 -- Worked examples.
-use Rattle.std.specs.Prelude.{ℕ, ◌≡◌, refl, List, ◌∷◌, [], ◌++◌, codes, Option, None, Ok, Err}
+use Rattle.std.specs.Prelude.{ℕ, ◌≡◌, refl, List, ◌∷◌, [], ◌++◌, codes, Option, Some, None, Ok, Err}
 use Rattle.std.specs.Fmt.{digits}
 use Rattle.exif_xml.specs.declared.fault.Fault.TheVariants.{MismatchedTag, Truncated, UndeclaredPrefix}
 use Rattle.exif_xml.specs.Attributes.{attribute_at, attributes, next_at}
@@ -40,6 +40,14 @@ keyword : read (packet (codes "<d:subject><r:Bag><r:li>a&amp;b</r:li></r:Bag></d
     Ok (dublin_core (codes "dc:subject[1]") (codes "a&b") None 143 150 137 157 ∷ [])
 unfolding digits read read_all walk token_at markup_at start_at end_at declaration_at attributes next_at attribute_at open_element enter_element element_of facts_of resolve close_element pop_element with_property with_attribute meaning_of property_of path_of root_of text_of chunk_at reference_at core_prefix photo_prefix iptc_prefix struct_prefix people_prefix edit_prefix
 keyword = refl
+
+-- the language of the nearest element that has one, or none
+language : read (packet (codes "<d:title xml:lang='en'><r:Alt><r:li>a</r:li>"
+    ++ codes "<r:li xml:lang=''>b</r:li></r:Alt></d:title>")) ≡
+    Ok (dublin_core (codes "dc:title[1]") (codes "a") (Some (codes "en")) 155 156 149 163 ∷
+    dublin_core (codes "dc:title[2]") (codes "b") None 181 182 163 189 ∷ [])
+unfolding digits read read_all walk token_at markup_at start_at end_at declaration_at attributes next_at attribute_at open_element enter_element element_of facts_of resolve close_element pop_element with_property with_attribute meaning_of property_of path_of root_of text_of chunk_at reference_at core_prefix photo_prefix iptc_prefix struct_prefix people_prefix edit_prefix
+language = refl
 
 -- a prefix that is not declared
 no_prefix : read (codes "<x/><a:b/>") ≡ Err (record { fault = Xml UndeclaredPrefix; offset = 4 })

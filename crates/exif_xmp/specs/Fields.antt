@@ -15,17 +15,18 @@ use Rattle.exif_xmp.specs.Refusals.{located}
 use Rattle.exif_xmp.specs.Roles.{meaning_of}
 use Rattle.exif_xmp.specs.States.{StateView, with_property}
 
-abbrev pub attribute_spans : Attribute → Spans
-attribute_spans a = record {
+-- an attribute has the language of its element (Extensible Markup Language 1.0, 2.12)
+abbrev pub attribute_spans : StateView → Attribute → Spans
+attribute_spans s a = record {
   value = a.value;
   whole = record { start = a.name.start; end = a.value.end };
-  language = None;
+  language = s.top.language;
 }
 
 abbrev pub with_meant : List ℕ → StateView → Attribute → Meaning → Result StateView Refusal
-with_meant packet s a meanings.Value = with_property packet s steps.Nothing (attribute_spans a)
+with_meant packet s a meanings.Value = with_property packet s steps.Nothing (attribute_spans s a)
 with_meant packet s a (meanings.Field name) =
-    with_property packet s (steps.Named name) (attribute_spans a)
+    with_property packet s (steps.Named name) (attribute_spans s a)
 with_meant packet s a meanings.Ignored = Ok s
 with_meant packet s a meanings.Language = Ok s
 with_meant packet s a meanings.Resource = Ok s

@@ -1,7 +1,7 @@
 //! Elements that begin and end.
 
 ghost use Rattle.std.specs.Prelude.{◌≡◌, ◌<◌, ◌+◌, ◌^◌, length, map, Ok};
-ghost use Rattle.exif_xmp.specs.Elements.{close_element, close_if_empty, element_of, end_tag, enter_element, open_element, pop_element, push_element, with_child, with_text_value};
+ghost use Rattle.exif_xmp.specs.Elements.{close_element, close_if_empty, element_of, end_tag, enter_element, language_in, open_element, pop_element, push_element, with_child, with_text_value};
 ghost use Rattle.exif_xmp.specs.Properties.{property_view};
 ghost use Rattle.exif_xmp.specs.Refusals.{Gives};
 ghost use Rattle.exif_xmp.specs.States.{state_view};
@@ -146,6 +146,23 @@ pub fn end_tag(
     Err(refused(Fault::Xml(XmlFault::MismatchedTag), offset))
 }
 
+// The language of an element: its own `xml:lang`, where an empty one means none, or else that of
+// the element that contains it.
+fn language_in(own: Option<Span>, outer: Option<Span>) -> Option<Span>
+    ensures { result ≡ language_in own outer }
+{
+    match own {
+        Some(span) => {
+            if span.start == span.end {
+                None
+            } else {
+                Some(span)
+            }
+        }
+        None => outer,
+    }
+}
+
 // The element of a start tag in the open one, `top`. Outside it `outer` namespace declarations are
 // in scope.
 #[tactic(auto, unfolding(crate::specs::Elements::element_of))]
@@ -174,7 +191,7 @@ fn element_of(
             has_text: false,
             start: tag.start,
             content: tag.content,
-            language: facts.language,
+            language: language_in(facts.language, top.language),
         },
         facts,
     })

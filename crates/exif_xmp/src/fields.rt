@@ -31,7 +31,7 @@ fn with_meant(
             start: attribute.name.start,
             end: attribute.value.end,
         },
-        language: None,
+        language: state.top.language,
     };
     match meaning {
         Meaning::Value => with_property(alloc, packet, state, Step::Nothing, spans),

@@ -40,6 +40,6 @@ pub struct Frame {
     pub start: usize,
     /// The offset of its content, behind its start tag.
     pub content: usize,
-    /// Its `xml:lang`.
+    /// The language of its text, from its own `xml:lang` or that of an element that contains it.
     pub language: Option<Span>,
 }

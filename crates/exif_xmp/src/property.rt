@@ -26,7 +26,8 @@ pub struct Property {
     pub path: Vec<u8>,
     /// Its text, with references and CDATA sections decoded.
     pub text: Vec<u8>,
-    /// The language of the text, from `xml:lang`.
+    /// The language of the text: the `xml:lang` of the nearest element that contains it and has one
+    /// (XML 1.0, 2.12); `None` where there is none, or where that one is empty.
     pub language: Option<Vec<u8>>,
     /// Where the packet has its value, as it is written.
     pub value: Span,
@@ -41,7 +42,7 @@ pub struct Spans {
     pub value: Span,
     /// Its element or attribute.
     pub whole: Span,
-    /// The value of `xml:lang`.
+    /// Its language.
     pub language: Option<Span>,
 }
 
