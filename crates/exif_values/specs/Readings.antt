@@ -1,5 +1,5 @@
 -- The packets of a picture, read.
-use Rattle.std.specs.Prelude.{ℕ, ◌&&◌, not, Bool, List, [], ◌∷◌, Option, None, Some, Result, Ok, Err, if◌then◌else◌}
+use Rattle.std.specs.Prelude.{ℕ, ◌&&◌, not, Bool, true, false, List, [], ◌∷◌, Option, None, Some, Result, Ok, Err, if◌then◌else◌}
 use Rattle.std.specs.List.{list_any}
 use Rattle.std.specs.Option.{option_map}
 use Rattle.exif_packets.specs.Fields.{Held, packets_of_fields}
@@ -18,7 +18,7 @@ use Rattle.exif_values.specs.declared.fault.Cause.TheVariants as cause
 
 -- with the properties of a packet of which this is read
 abbrev pub with_answer : Result (List PropertyView) Refusal → Option ℕ → Found → Found
-with_answer (Ok properties) offset found = with_properties properties found
+with_answer (Ok properties) offset found = with_properties offset properties found
 with_answer (Err refusal) offset found = with_fault (cause.Xmp refusal) offset found
 
 -- with those of an XMP packet
@@ -42,28 +42,38 @@ with_rest file all (Some id) offset found = with_extension file all id offset fo
 abbrev pub with_whole : List ℕ → List Packet → Result (List PropertyView) Refusal → Option ℕ
     → Found → Found
 with_whole file all (Ok properties) offset found =
-    with_rest file all (extension_id properties) offset (with_properties properties found)
+    with_rest file all (extension_id properties) offset
+    (with_properties offset properties found)
 with_whole file all (Err refusal) offset found = with_fault (cause.Xmp refusal) offset found
 
 abbrev pub with_main : List ℕ → List Packet → Packet → Found → Found
 with_main file all packet found =
     with_whole file all (xmp.read (content_of packet file)) (Some packet.offset) found
 
--- with what a packet has; portions are read with the packet that names them
-abbrev pub with_form : Form → List ℕ → List Packet → Packet → Found → Found
-with_form Xmp file all packet found = with_main file all packet found
-with_form Iptc file all packet found =
-    with_iptc (Some packet.offset) (content_of packet file) found
-with_form XmpPortion file all packet found = found
+-- whether a packet is an XMP packet
+abbrev pub is_xmp : Form → Bool
+is_xmp Xmp = true
+is_xmp Iptc = false
+is_xmp XmpPortion = false
 
-abbrev pub with_packet : List ℕ → List Packet → Packet → Found → Found
-with_packet file all packet found = with_form packet.form file all packet found
+-- with what a packet has: the first XMP packet has a rest, whose portions are read with it
+abbrev pub with_form : Bool → Form → List ℕ → List Packet → Packet → Found → Found
+with_form first Xmp file all packet found =
+    if first then with_main file all packet found
+    else with_xmp (Some packet.offset) (content_of packet file) found
+with_form first Iptc file all packet found =
+    with_iptc (Some packet.offset) (content_of packet file) found
+with_form first XmpPortion file all packet found = found
+
+abbrev pub with_packet : Bool → List ℕ → List Packet → Packet → Found → Found
+with_packet first file all packet found = with_form first packet.form file all packet found
 
 -- with what packets have, one after another
-abbrev pub with_packets : List ℕ → List Packet → List Packet → Found → Found
-with_packets file all [] found = found
-with_packets file all (packet ∷ rest) found =
-    with_packets file all rest (with_packet file all packet found)
+abbrev pub with_packets : Bool → List ℕ → List Packet → List Packet → Found → Found
+with_packets first file all [] found = found
+with_packets first file all (packet ∷ rest) found =
+    with_packets (first && not (is_xmp packet.form)) file all rest
+    (with_packet first file all packet found)
 
 -- whether there are portions that no packet names
 abbrev pub has_strays : List Packet → Found → Bool
@@ -76,7 +86,7 @@ with_strays all found =
 
 -- what these packets of a file have
 abbrev pub read_all : List ℕ → List Packet → Found
-read_all file all = with_strays all (with_packets file all all nothing)
+read_all file all = with_strays all (with_packets true file all all nothing)
 
 -- what the packets of a file have
 abbrev pub read : List ℕ → Option Found

@@ -1,5 +1,5 @@
 -- What was read of the packets of a picture.
-use Rattle.std.specs.Prelude.{ℕ, List, [], ◌∷◌, ◌++◌, map, Option, None, Some}
+use Rattle.std.specs.Prelude.{ℕ, ◌+◌, nat_lt, List, [], ◌∷◌, ◌++◌, length, map, Option, None, Some, if◌then◌else◌}
 use Rattle.exif_iptc.specs.Readings.{ReadOutcome, read_lenient}
 use Rattle.exif_iptc.specs.Values.{DatasetValue, value_view}
 use Rattle.exif_iptc.specs.declared.fault.Refusal as iptc
@@ -27,11 +27,6 @@ values_view v = record {
 abbrev pub nothing : Found
 nothing = record { xmp = []; iptc = []; faults = [] }
 
--- with these properties behind the others
-abbrev pub with_properties : List PropertyView → Found → Found
-with_properties properties found =
-    record { xmp = found.xmp ++ properties; iptc = found.iptc; faults = found.faults }
-
 -- with something that is not read
 abbrev pub with_fault : Cause → Option ℕ → Found → Found
 with_fault cause offset found = record {
@@ -39,6 +34,17 @@ with_fault cause offset found = record {
   iptc = found.iptc;
   faults = found.faults ++ record { cause = cause; offset = offset } ∷ [];
 }
+
+-- with these properties behind the others
+abbrev pub with_more : List PropertyView → Found → Found
+with_more properties found =
+    record { xmp = found.xmp ++ properties; iptc = found.iptc; faults = found.faults }
+
+-- the same, if there are not too many
+abbrev pub with_properties : Option ℕ → List PropertyView → Found → Found
+with_properties offset properties found =
+    if nat_lt 65535 (length found.xmp + length properties)
+    then with_fault cause.TooMany offset found else with_more properties found
 
 -- with these datasets behind the others
 abbrev pub with_datasets : List DatasetValue → Found → Found

@@ -10,6 +10,10 @@ pub enum Cause {
     Xmp(XmpRefusal),
     /// The rest of a long XMP packet is not whole: the bytes from this offset of it on are missing.
     Portions(usize),
+    /// The properties of a packet would be more than
+    /// [`MAX_PROPERTIES`](crate::values::MAX_PROPERTIES) with those before them: none of them is
+    /// listed.
+    TooMany,
     /// IPTC data are refused from a dataset on: those before it are read.
     Iptc(IptcRefusal),
 }

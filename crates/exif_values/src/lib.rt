@@ -8,7 +8,7 @@
 mod extension;
 mod fault;
 mod reading;
-mod values;
+pub mod values;
 
 pub use fault::{Cause, Fault};
 pub use reading::{read, read_fields};

@@ -29,7 +29,7 @@ fn add_xmp(
         ≡ with_xmp offset content.now (values_view values.old)) }
 {
     match exif_xmp::read(alloc, content) {
-        Ok(properties) => values.add_properties(properties),
+        Ok(properties) => values.add_properties(offset, properties),
         Err(ReadError::Refused(refusal)) => values.add_fault(Cause::Xmp(refusal), offset),
         Err(ReadError::OutOfMemory) => Err(AllocError),
     }
@@ -88,7 +88,7 @@ fn add_main(
     match exif_xmp::read(alloc, content_of(packet, file)) {
         Ok(properties) => {
             let id = extension_id(alloc, properties.as_slice())?;
-            values.add_properties(properties)?;
+            values.add_properties(offset, properties)?;
             add_rest(alloc, file, packets, id, offset, values)
         }
         Err(ReadError::Refused(refusal)) => values.add_fault(Cause::Xmp(refusal), offset),
@@ -96,20 +96,23 @@ fn add_main(
     }
 }
 
-// Adds what a packet of a file has.
+// Adds what a packet of a file has. Only the first XMP packet has a rest.
 fn add_packet(
     alloc: Global,
     file: &[u8],
     packets: &[Packet],
     packet: Packet,
+    is_first: bool,
     values: &mut Values,
 ) -> Result<(), AllocError>
     ensures { OnOk result (values_view values.new
-        ≡ with_packet file.now packets.now packet (values_view values.old)) }
+        ≡ with_packet is_first file.now packets.now packet (values_view values.old)) }
 {
+    let offset = Some(packet.offset);
     match packet.form {
-        Form::Xmp => add_main(alloc, file, packets, packet, values),
-        Form::Iptc => values.add_iptc(alloc, Some(packet.offset), content_of(packet, file)),
+        Form::Xmp if is_first => add_main(alloc, file, packets, packet, values),
+        Form::Xmp => add_xmp(alloc, offset, content_of(packet, file), values),
+        Form::Iptc => values.add_iptc(alloc, offset, content_of(packet, file)),
         Form::XmpPortion => Ok(()),
     }
 }
@@ -140,16 +143,18 @@ fn read_packets(alloc: Global, file: &[u8], packets: &[Packet]) -> Result<Values
         ≡ read_all file.now packets.now) }
 {
     let mut values = Values::new(alloc);
+    let mut is_first = true;
     for packet in packets {
-        add_packet(alloc, file, packets, *packet, &mut values)?;
+        add_packet(alloc, file, packets, *packet, is_first, &mut values)?;
+        is_first = is_first && packet.form != Form::Xmp;
     }
     name_strays(packets, &mut values)?;
     Ok(values)
 }
 
 /// The XMP properties and the IPTC values of a JPEG, WebP, PNG, JPEG XL, HEIF or AVIF file, in the
-/// order of its packets, each with the rest of it where it is longer than a segment; and what is
-/// not read. `None` for a file of another format.
+/// order of its packets, the first XMP packet with the rest of it where it is longer than a segment;
+/// and what is not read. `None` for a file of another format.
 ///
 /// It takes the memory of the properties and values, and of the list of the file's parts.
 pub fn read(alloc: Global, file: &[u8]) -> Result<Option<Values>, AllocError>

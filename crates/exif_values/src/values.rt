@@ -9,6 +9,9 @@ use exif_iptc::{Value, read_lenient};
 use exif_xmp::Property;
 use std::alloc::{AllocError, Global};
 
+/// How many XMP properties are listed at most.
+pub const MAX_PROPERTIES: usize = 65_535;
+
 /// The XMP properties and the IPTC values of a picture, in the order of its packets, and what was
 /// not read.
 ///
@@ -35,11 +38,18 @@ impl Values {
         }
     }
 
-    // Adds properties.
-    pub(crate) fn add_properties(&mut self, mut properties: Vec<Property>) -> Result<(), AllocError>
+    // Adds the properties of a packet, if there are not too many.
+    pub(crate) fn add_properties(
+        &mut self,
+        offset: Option<usize>,
+        mut properties: Vec<Property>,
+    ) -> Result<(), AllocError>
         ensures { OnOk result (values_view self.new
-            ≡ with_properties (map property_view properties.items) (values_view self.old)) }
+            ≡ with_properties offset (map property_view properties.items) (values_view self.old)) }
     {
+        if MAX_PROPERTIES < self.xmp.len() + properties.len() {
+            return self.add_fault(Cause::TooMany, offset);
+        }
         self.xmp.append(&mut properties)?;
         Ok(())
     }
