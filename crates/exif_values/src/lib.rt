@@ -8,6 +8,8 @@
 mod extension;
 mod fault;
 mod reading;
+#[cfg(test)]
+mod tests;
 pub mod values;
 
 pub use fault::{Cause, Fault};
