@@ -117,6 +117,9 @@ fn read_all(alloc: Global, packet: &[u8]) -> Result<State, ReadError>
 /// }
 /// ```
 ///
+/// Bytes that are no UTF-8 and control characters are kept in texts as they are:
+/// [`exif_xml::invalid_character`] reports the first of them.
+///
 /// It takes memory for the answer: the texts of the packet, and for each property a path and a URI
 /// within [`MAX_PATH_LEN`](crate::limits::MAX_PATH_LEN) and
 /// [`MAX_URI_LEN`](crate::limits::MAX_URI_LEN).
