@@ -1,14 +1,15 @@
 -- Worked examples.
-use Rattle.std.specs.Prelude.{ℕ, ◌≡◌, refl, true, ◌∷◌, [], codes, Ok, Err}
+use Rattle.std.specs.Prelude.{ℕ, ◌≡◌, refl, true, ◌∷◌, [], codes, Some, None, Ok, Err}
 use Rattle.exif_xml.specs.declared.attribute.Attribute.{Attribute}
 use Rattle.exif_xml.specs.declared.fault.Fault.TheVariants.{Doctype, InvalidReference, Truncated, UndeclaredPrefix}
 use Rattle.exif_xml.specs.declared.token.Kind.TheVariants.{Cdata, Start}
 use Rattle.exif_xml.specs.Attributes.{attribute_at, attributes, next_at}
+use Rattle.exif_xml.specs.Characters.{invalid_character}
 use Rattle.exif_xml.specs.Names.{resolve}
-use Rattle.exif_xml.specs.Prefixes.{core_prefix, edit_prefix, iptc_prefix, people_prefix, photo_prefix, struct_prefix, usual_prefix}
+use Rattle.exif_xml.specs.Prefixes.{core_prefix, usual_prefix}
 use Rattle.exif_xml.specs.Refusals.{walk}
 use Rattle.exif_xml.specs.Texts.{chunk_at, reference_at, text_of}
-use Rattle.exif_xml.specs.Tokens.{declaration_at, end_at, markup_at, start_at, token_at}
+use Rattle.exif_xml.specs.Tokens.{declaration_at, markup_at, start_at, token_at}
 
 -- a `>` in quotes does not end a tag
 start_tag : token_at (codes "<a b='>'/> ") ≡ Ok (record { kind = Start 1 true; len = 10 })
@@ -64,3 +65,31 @@ no_prefix = refl
 dublin_core : usual_prefix (codes "http://purl.org/dc/elements/1.1/") (codes "x") ≡ codes "dc"
 unfolding core_prefix
 dublin_core = refl
+
+-- the examples of RFC 3629, 7: `A`, U+2262, U+0391 and `.`, and U+FEFF and U+233B4
+latin_and_greek : invalid_character
+    (65 ∷ 226 ∷ 137 ∷ 162 ∷ 206 ∷ 145 ∷ 46 ∷ []) ≡ None
+latin_and_greek = refl
+
+beyond_the_plane : invalid_character (239 ∷ 187 ∷ 191 ∷ 240 ∷ 163 ∷ 142 ∷ 180 ∷ []) ≡ None
+beyond_the_plane = refl
+
+-- `a`, and then NUL, a surrogate, `/` in two bytes, U+FFFF, a byte of Latin-1, a character that is
+-- cut off
+no_nul : invalid_character (97 ∷ 0 ∷ []) ≡ Some 1
+no_nul = refl
+
+no_surrogate : invalid_character (97 ∷ 237 ∷ 160 ∷ 128 ∷ []) ≡ Some 1
+no_surrogate = refl
+
+no_long_form : invalid_character (97 ∷ 192 ∷ 175 ∷ []) ≡ Some 1
+no_long_form = refl
+
+no_noncharacter : invalid_character (97 ∷ 239 ∷ 191 ∷ 191 ∷ []) ≡ Some 1
+no_noncharacter = refl
+
+no_latin : invalid_character (97 ∷ 228 ∷ 98 ∷ []) ≡ Some 1
+no_latin = refl
+
+no_half : invalid_character (97 ∷ 206 ∷ []) ≡ Some 1
+no_half = refl

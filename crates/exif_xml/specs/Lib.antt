@@ -1,4 +1,5 @@
 pub mod Attributes
+pub mod Characters
 pub mod Examples
 pub mod FaultTexts
 pub mod Names

@@ -6,10 +6,12 @@
 //!
 //! The checks are those that a reader of untrusted files needs, and fewer than a validating parser
 //! has: a document type is refused, so no entity is ever expanded, and each refusal has its
-//! offset. Bytes are not checked to be UTF-8 or characters of XML 1.0, section 2.2.
+//! offset. That all bytes are characters of XML 1.0 in UTF-8 is a test of its own,
+//! [`invalid_character`].
 #![tactic(auto)]
 
 pub mod attribute;
+pub mod characters;
 pub mod fault;
 pub mod name;
 pub mod prefix;
@@ -19,6 +21,7 @@ pub mod text;
 pub mod token;
 
 pub use attribute::{Attribute, attributes};
+pub use characters::invalid_character;
 pub use fault::{Fault, ReadError, Refusal};
 pub use name::{Binding, Name, resolve, with_bindings};
 pub use prefix::usual_prefix;

@@ -1,7 +1,7 @@
 //! Lengths of runs of bytes at the beginning of an input.
 
 ghost use Rattle.std.specs.Prelude.{◌≡◌, ◌==◌, ◌≤◌, ◌<◌, length, slice_index, IfSome, IsTrue};
-ghost use Rattle.exif_xml.specs.Scans.{begins, closed_len, is_name_byte, is_space, is_text, quote_after, quoted_len, run, tag_len};
+ghost use Rattle.exif_xml.specs.Scans.{closed_len, is_name_byte, is_space, is_text, quote_after, quoted_len, run, tag_len};
 
 /// Whether an input has a byte other than 0 at an offset.
 pub fn has_at(input: &[u8], offset: usize, byte: u8) -> bool

@@ -1,6 +1,6 @@
 //! Character data and attribute values, decoded.
 
-ghost use Rattle.std.specs.Prelude.{◌≡◌, ◌<◌, ◌≤◌, ◌+◌, ◌^◌, ◌++◌, length, IfOk, IfSome, Ok, OnOk};
+ghost use Rattle.std.specs.Prelude.{◌≡◌, ◌<◌, ◌≤◌, ◌+◌, ◌^◌, ◌++◌, length, IfOk, IfSome, Ok};
 ghost use Rattle.exif_xml.specs.Refusals.{Gives};
 ghost use Rattle.exif_xml.specs.Texts.{IsEncodable, digit, is_character, is_plain, is_reference_byte, markup_chunk, named, number_of, character_of, predefined_entity, reference_at, content_of, text_of, chunk_at, utf8_of};
 ghost use Rattle.exif_xml.specs.Scans.{run};

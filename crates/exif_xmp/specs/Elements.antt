@@ -15,9 +15,13 @@ use Rattle.exif_xmp.specs.declared.fault.Fault.TheVariants as faults
 use Rattle.exif_xmp.specs.declared.fault.Refusal.{Refusal}
 use Rattle.exif_xmp.specs.declared.frame.Frame.{Frame}
 use Rattle.exif_xmp.specs.declared.frame.Role.{Role}
-use Rattle.exif_xmp.specs.declared.frame.Role.TheVariants.{Outside, Rdf, Node, Property, Array}
+use Rattle.exif_xmp.specs.declared.frame.Role.TheVariants.{Outside, Rdf, Node, Property, Array, Unread, Inside}
 use Rattle.exif_xmp.specs.declared.path.Step.{Step}
 use Rattle.exif_xmp.specs.declared.path.Step.TheVariants as steps
+use Rattle.exif_xmp.specs.declared.property.Form.{Form}
+use Rattle.exif_xmp.specs.declared.property.Form.TheVariants.{Text}
+use Rattle.exif_xmp.specs.declared.property.Form.TheVariants as forms
+use Rattle.exif_xmp.specs.declared.property.Spans.{Spans}
 use Rattle.exif_xmp.specs.declared.role.Facts.{Facts}
 use Rattle.exif_xmp.specs.declared.tag.StartTag.{StartTag}
 use Rattle.exif_xmp.specs.Fields.{with_fields}
@@ -43,14 +47,17 @@ start_tag_at offset n is_empty len = record {
 }
 
 abbrev pub child_in : Role → Frame → Frame
-child_in Property top = record top { has_value = true }
+child_in Property top =
+    if top.has_text then record top { role = Unread } else record top { has_value = true }
 child_in Array top =
     record top { items = if nat_lt (top.items + 1) (2 ^ 64) then top.items + 1 else 2 ^ 64 - 1 }
 child_in Outside top = top
 child_in Rdf top = top
 child_in Node top = top
+child_in Unread top = top
+child_in Inside top = top
 
--- an element with one more child
+-- an element with one more child: a property with text is not read
 abbrev pub with_child : Frame → Frame
 with_child top = child_in top.role top
 
@@ -84,8 +91,9 @@ unfoldable pub element_of : List ℕ → Frame → ℕ → List Binding → List
     → Result Element Fault
 element_of packet top outer bs as' tag =
     of_xml (resolve packet bs tag.name) >>= λ name. (child_of packet top name >>= λ child.
-    (facts_of packet bs as' >>= λ facts. (frame_role packet child.role facts >>= λ role.
-    Ok (element_as tag outer child.step facts (language_in facts.language top.language) role))))
+    (facts_of packet bs as' >>= λ facts.
+    Ok (element_as tag outer child.step facts (language_in facts.language top.language)
+    (frame_role packet child.role facts))))
 
 -- the state in an element that begins in the open one
 abbrev pub push_element : Frame → List Frame → List Binding → List PropertyView → Frame → StateView
@@ -124,27 +132,34 @@ popped_to s offset (Some last) = Ok (record {
 unfoldable pub pop_element : StateView → ℕ → Result StateView Refusal
 pop_element s offset = popped_to s offset (slice_get s.below (length s.below - 1))
 
-abbrev pub text_value_in : Role → List ℕ → StateView → ℕ → ℕ → Result StateView Refusal
-text_value_in Property packet s offset end =
-    if s.top.has_value then Ok s else
-    with_property packet s steps.Nothing (record {
-      value = record { start = s.top.content; end = offset };
-      whole = record { start = s.top.start; end = end };
-      language = s.top.language;
-    })
-text_value_in Outside packet s offset end = Ok s
-text_value_in Rdf packet s offset end = Ok s
-text_value_in Node packet s offset end = Ok s
-text_value_in Array packet s offset end = Ok s
+-- where the open element is, whose content ends at an offset and whose end tag at `end`
+abbrev pub element_spans : Frame → ℕ → ℕ → Form → Spans
+element_spans top offset end form = record {
+  value = record { start = top.content; end = offset };
+  whole = record { start = top.start; end = end };
+  language = top.language;
+  form = form;
+}
 
--- the state with the text of the open element as a property, if that is its value; its content ends
--- at an offset, and its end tag at `end`
-abbrev pub with_text_value : List ℕ → StateView → ℕ → ℕ → Result StateView Refusal
-with_text_value packet s offset end = text_value_in s.top.role packet s offset end
+abbrev pub content_in : Role → List ℕ → StateView → ℕ → ℕ → Result StateView Refusal
+content_in Property packet s offset end =
+    if s.top.has_value then Ok s else
+    with_property packet s steps.Nothing (element_spans s.top offset end Text)
+content_in Unread packet s offset end =
+    with_property packet s steps.Nothing (element_spans s.top offset end forms.Unread)
+content_in Outside packet s offset end = Ok s
+content_in Rdf packet s offset end = Ok s
+content_in Node packet s offset end = Ok s
+content_in Array packet s offset end = Ok s
+content_in Inside packet s offset end = Ok s
+
+-- the state with the open element as a property, if it has one value, or is not read
+abbrev pub with_content : List ℕ → StateView → ℕ → ℕ → Result StateView Refusal
+with_content packet s offset end = content_in s.top.role packet s offset end
 
 unfoldable pub close_element : List ℕ → StateView → ℕ → ℕ → Result StateView Refusal
 close_element packet s offset end =
-    with_text_value packet s offset end >>= λ t. pop_element t offset
+    with_content packet s offset end >>= λ t. pop_element t offset
 
 -- an end tag has the name of the open element
 abbrev pub end_tag : List ℕ → StateView → ℕ → ℕ → ℕ → Result StateView Refusal

@@ -3,7 +3,7 @@ use Rattle.std.specs.Prelude.{ℕ, List, codes}
 use Rattle.exif_xml.specs.declared.fault.Fault as xml
 use Rattle.exif_xml.specs.declared.fault.Fault.TheVariants as xml_faults
 use Rattle.exif_xmp.specs.declared.fault.Fault.{Fault}
-use Rattle.exif_xmp.specs.declared.fault.Fault.TheVariants.{Xml, Encoding, NoNamespace, Element, Mixed, ParseType, TooDeep, TooMany, TooLong}
+use Rattle.exif_xmp.specs.declared.fault.Fault.TheVariants.{Xml, Encoding, TooDeep, TooMany, TooLong}
 
 abbrev pub xml_text : xml.Fault → List ℕ
 xml_text xml_faults.Doctype = codes "XMP with a document type"
@@ -16,10 +16,6 @@ xml_text xml_faults.InvalidReference = codes "XMP with a reference that is no ch
 abbrev pub fault_text : Fault → List ℕ
 fault_text (Xml fault) = xml_text fault
 fault_text Encoding = codes "XMP in UTF-16 or UTF-32"
-fault_text NoNamespace = codes "XMP with a property without a namespace"
-fault_text Element = codes "XMP with an element that is not allowed there"
-fault_text Mixed = codes "XMP with text beside elements"
-fault_text ParseType = codes "XMP with an rdf:parseType other than Resource"
 fault_text TooDeep = codes "XMP with elements nested too deeply"
 fault_text TooMany = codes "XMP with too many properties, items or namespaces"
 fault_text TooLong = codes "XMP with a path or a namespace that is too long"

@@ -5,8 +5,9 @@ use Rattle.exif_xml.specs.declared.span.Span.{Span}
 use Rattle.exif_xml.specs.Refusals.{◌>>=◌}
 use Rattle.exif_xmp.specs.declared.fault.Refusal.{Refusal}
 use Rattle.exif_xmp.specs.declared.frame.Role.{Role}
-use Rattle.exif_xmp.specs.declared.frame.Role.TheVariants.{Outside, Rdf, Node, Property, Array}
+use Rattle.exif_xmp.specs.declared.frame.Role.TheVariants.{Outside, Rdf, Node, Property, Array, Unread, Inside}
 use Rattle.exif_xmp.specs.declared.path.Step.TheVariants as steps
+use Rattle.exif_xmp.specs.declared.property.Form.TheVariants.{Text}
 use Rattle.exif_xmp.specs.declared.property.Spans.{Spans}
 use Rattle.exif_xmp.specs.declared.role.Facts.{Facts}
 use Rattle.exif_xmp.specs.declared.role.Meaning.{Meaning}
@@ -21,6 +22,7 @@ attribute_spans s a = record {
   value = a.value;
   whole = record { start = a.name.start; end = a.value.end };
   language = s.top.language;
+  form = Text;
 }
 
 abbrev pub with_meant : List ℕ → StateView → Attribute → Meaning → Result StateView Refusal
@@ -50,6 +52,7 @@ with_resource packet s (Some value) =
       value = value;
       whole = record { start = s.top.start; end = s.top.content };
       language = s.top.language;
+      form = Text;
     })
 
 abbrev pub fields_in : Role → List ℕ → StateView → Facts → List Attribute
@@ -60,6 +63,8 @@ fields_in Node packet s facts as' = with_attributes packet s as'
 fields_in Outside packet s facts as' = Ok s
 fields_in Rdf packet s facts as' = Ok s
 fields_in Array packet s facts as' = Ok s
+fields_in Unread packet s facts as' = Ok s
+fields_in Inside packet s facts as' = Ok s
 
 -- the state with the properties that the attributes of the open element are
 abbrev pub with_fields : List ℕ → StateView → Facts → List Attribute → Result StateView Refusal

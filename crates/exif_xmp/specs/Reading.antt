@@ -18,7 +18,7 @@ use Rattle.exif_xmp.specs.States.{StateView}
 
 abbrev pub kind_step : Kind → List ℕ → StateView → ℕ → ℕ → Result StateView Refusal
 kind_step kinds.Text packet s offset len = character_data packet s offset len
-kind_step kinds.Cdata packet s offset len = with_text s offset
+kind_step kinds.Cdata packet s offset len = with_text packet s offset len
 kind_step kinds.Ignored packet s offset len = Ok s
 kind_step (kinds.Start n is_empty) packet s offset len =
     open_element packet s (start_tag_at offset n is_empty len)

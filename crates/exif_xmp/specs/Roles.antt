@@ -45,46 +45,62 @@ abbrev pub outside_child : Term → Child
 outside_child Root = record { role = roles.Rdf; step = steps.Nothing }
 outside_child _ = record { role = roles.Outside; step = steps.Nothing }
 
+-- an element of a form that XMP does not have
+abbrev pub unread_child : Child
+unread_child = record { role = roles.Unread; step = steps.Nothing }
+
+-- an element in one that is not read
+abbrev pub inside_child : Child
+inside_child = record { role = roles.Inside; step = steps.Nothing }
+
 -- `rdf:RDF` contains `rdf:Description`
-abbrev pub rdf_child : Term → Result Child Fault
-rdf_child Description = Ok (record { role = roles.Node; step = steps.Nothing })
-rdf_child _ = Err faults.Element
+abbrev pub rdf_child : Term → Child
+rdf_child Description = record { role = roles.Node; step = steps.Nothing }
+rdf_child _ = unread_child
 
--- an element with properties contains an element for each; `rdf:value` is the value of the whole
-abbrev pub node_child : Term → Name → Result Child Fault
-node_child Value name = Ok (record { role = roles.Property; step = steps.Nothing })
+-- an element with properties contains an element for each, which has a namespace; `rdf:value` is
+-- the value of the whole
+abbrev pub node_child : Term → Name → Child
+node_child Value name = record { role = roles.Property; step = steps.Nothing }
 node_child Other name =
-    if name.uri.start == name.uri.end then Err faults.NoNamespace else
-    Ok (record { role = roles.Property; step = steps.Named name })
-node_child Root name = Err faults.Element
-node_child Description name = Err faults.Element
-node_child Array name = Err faults.Element
-node_child Item name = Err faults.Element
+    if name.uri.start == name.uri.end then unread_child else
+    record { role = roles.Property; step = steps.Named name }
+node_child Root name = unread_child
+node_child Description name = unread_child
+node_child Array name = unread_child
+node_child Item name = unread_child
 
--- a property contains text, or one `rdf:Description`, or one array
-abbrev pub value_child : Term → Result Child Fault
-value_child Description = Ok (record { role = roles.Node; step = steps.Nothing })
-value_child Array = Ok (record { role = roles.Array; step = steps.Nothing })
-value_child _ = Err faults.Element
+-- a property contains text, or one `rdf:Description`, or one array; with text beside elements none
+-- of its content is read
+abbrev pub value_child : Term → Child
+value_child Description = record { role = roles.Node; step = steps.Nothing }
+value_child Array = record { role = roles.Array; step = steps.Nothing }
+value_child _ = unread_child
 
-abbrev pub property_child : Term → Bool → Bool → Result Child Fault
+abbrev pub property_child : Term → Bool → Bool → Child
 property_child term has_value has_text =
-    if has_text then Err faults.Mixed else
-    (if has_value then Err faults.Element else value_child term)
+    if has_text then inside_child else
+    (if has_value then unread_child else value_child term)
 
 -- an array contains `rdf:li`
+abbrev pub item_role : Term → Role
+item_role Item = roles.Property
+item_role _ = roles.Unread
+
+-- each element in an array has the next index
 abbrev pub array_child : Term → ℕ → Result Child Fault
-array_child Item items =
+array_child term items =
     if nat_le 65535 items then Err faults.TooMany else
-    Ok (record { role = roles.Property; step = steps.Item (items + 1) })
-array_child _ items = Err faults.Element
+    Ok (record { role = item_role term; step = steps.Item (items + 1) })
 
 abbrev pub role_child : Role → Frame → Term → Name → Result Child Fault
 role_child roles.Outside top term name = Ok (outside_child term)
-role_child roles.Rdf top term name = rdf_child term
-role_child roles.Node top term name = node_child term name
-role_child roles.Property top term name = property_child term top.has_value top.has_text
+role_child roles.Rdf top term name = Ok (rdf_child term)
+role_child roles.Node top term name = Ok (node_child term name)
+role_child roles.Property top term name = Ok (property_child term top.has_value top.has_text)
 role_child roles.Array top term name = array_child term top.items
+role_child roles.Unread top term name = Ok inside_child
+role_child roles.Inside top term name = Ok inside_child
 
 -- the element with this name in the open one
 abbrev pub child_of : List ℕ → Frame → Name → Result Child Fault
@@ -152,16 +168,18 @@ no_facts = record { language = None; resource = None; parse_type = None; has_fie
 unfoldable pub facts_of : List ℕ → List Binding → List Attribute → Result Facts Fault
 facts_of packet bs as' = facts_from packet bs no_facts as'
 
--- a property with `rdf:parseType="Resource"` has properties
-abbrev pub parsed_role : List ℕ → Option Span → Result Role Fault
-parsed_role packet None = Ok roles.Property
+-- a property with `rdf:parseType="Resource"` has properties; of other types it is not read
+abbrev pub parsed_role : List ℕ → Option Span → Role
+parsed_role packet None = roles.Property
 parsed_role packet (Some value) =
-    if bytes_eq (slice_of packet value) (codes "Resource") then Ok roles.Node else
-    Err faults.ParseType
+    if bytes_eq (slice_of packet value) (codes "Resource") then roles.Node else roles.Unread
 
-abbrev pub frame_role : List ℕ → Role → Facts → Result Role Fault
+-- an array has no properties of its own
+abbrev pub frame_role : List ℕ → Role → Facts → Role
 frame_role packet roles.Property facts = parsed_role packet facts.parse_type
-frame_role packet roles.Outside facts = Ok roles.Outside
-frame_role packet roles.Rdf facts = Ok roles.Rdf
-frame_role packet roles.Node facts = Ok roles.Node
-frame_role packet roles.Array facts = Ok roles.Array
+frame_role packet roles.Array facts = if facts.has_fields then roles.Unread else roles.Array
+frame_role packet roles.Outside facts = roles.Outside
+frame_role packet roles.Rdf facts = roles.Rdf
+frame_role packet roles.Node facts = roles.Node
+frame_role packet roles.Unread facts = roles.Unread
+frame_role packet roles.Inside facts = roles.Inside

@@ -1,7 +1,7 @@
 //! Elements that begin and end.
 
 ghost use Rattle.std.specs.Prelude.{◌≡◌, ◌<◌, ◌+◌, ◌^◌, length, map, Ok};
-ghost use Rattle.exif_xmp.specs.Elements.{close_element, close_if_empty, element_of, end_tag, enter_element, language_in, open_element, pop_element, push_element, with_child, with_text_value};
+ghost use Rattle.exif_xmp.specs.Elements.{close_element, close_if_empty, element_of, element_spans, end_tag, enter_element, language_in, open_element, pop_element, push_element, with_child, with_content};
 ghost use Rattle.exif_xmp.specs.Properties.{property_view};
 ghost use Rattle.exif_xmp.specs.Refusals.{Gives};
 ghost use Rattle.exif_xmp.specs.States.{state_view};
@@ -11,7 +11,7 @@ use crate::fields::with_fields;
 use crate::frame::{Frame, Role};
 use crate::limits::{MAX_BINDINGS, MAX_DEPTH};
 use crate::path::Step;
-use crate::property::{Property, Spans};
+use crate::property::{Form, Property, Spans};
 use crate::role::{Facts, child_of, facts_of, frame_role};
 use crate::state::{State, refused, with_property};
 use crate::tag::StartTag;
@@ -29,20 +29,28 @@ pub struct Element {
     pub facts: Facts,
 }
 
-// An element with one more child.
+// An element with one more child: a property with text is not read.
 fn with_child(top: Frame) -> Frame
     ensures { result ≡ with_child top }
 {
     match top.role {
-        Role::Property => Frame {
-            has_value: true,
-            ..top
-        },
+        Role::Property => {
+            if top.has_text {
+                return Frame {
+                    role: Role::Unread,
+                    ..top
+                };
+            }
+            Frame {
+                has_value: true,
+                ..top
+            }
+        }
         Role::Array => Frame {
             items: top.items.saturating_add(1),
             ..top
         },
-        Role::Outside | Role::Rdf | Role::Node => top,
+        Role::Outside | Role::Rdf | Role::Node | Role::Unread | Role::Inside => top,
     }
 }
 
@@ -72,37 +80,48 @@ fn pop_element(state: State, offset: usize) -> Result<State, ReadError>
     })
 }
 
-// The state with the text of the open element as a property, if that is its value. Its content
+// Where the open element is, whose content ends at an offset and whose end tag at `end`.
+fn element_spans(top: Frame, offset: usize, end: usize, form: Form) -> Spans
+    ensures { result ≡ element_spans top offset end form }
+{
+    Spans {
+        value: Span {
+            start: top.content,
+            end: offset,
+        },
+        whole: Span {
+            start: top.start,
+            end,
+        },
+        language: top.language,
+        form,
+    }
+}
+
+// The state with the open element as a property, if it has one value, or is not read. Its content
 // ends at an offset, and its end tag ends at `end`.
-fn with_text_value(
+fn with_content(
     alloc: Global,
     packet: &[u8],
     state: State,
     offset: usize,
     end: usize,
 ) -> Result<State, ReadError>
-    ensures { Gives state_view result
-        (with_text_value packet.now (state_view state) offset end) }
+    ensures { Gives state_view result (with_content packet.now (state_view state) offset end) }
 {
     match state.top.role {
         Role::Property => {
             if state.top.has_value {
                 return Ok(state);
             }
-            let spans = Spans {
-                value: Span {
-                    start: state.top.content,
-                    end: offset,
-                },
-                whole: Span {
-                    start: state.top.start,
-                    end,
-                },
-                language: state.top.language,
-            };
+            let spans = element_spans(state.top, offset, end, Form::Text);
             with_property(alloc, packet, state, Step::Nothing, spans)
         }
-        Role::Outside | Role::Rdf | Role::Node | Role::Array => Ok(state),
+        Role::Unread => {
+            let spans = element_spans(state.top, offset, end, Form::Unread);
+            with_property(alloc, packet, state, Step::Nothing, spans)
+        }
+        Role::Outside | Role::Rdf | Role::Node | Role::Array | Role::Inside => Ok(state),
     }
 }
 
@@ -118,7 +137,7 @@ fn close_element(
     ensures { Gives state_view result
         (close_element packet.now (state_view state) offset end) }
 {
-    let state = with_text_value(alloc, packet, state, offset, end)?;
+    let state = with_content(alloc, packet, state, offset, end)?;
     pop_element(state, offset)
 }
 
@@ -179,7 +198,7 @@ fn element_of(
     let name = resolve(packet, bindings, tag.name)?;
     let child = child_of(packet, top, name)?;
     let facts = facts_of(packet, bindings, attributes)?;
-    let role = frame_role(packet, child.role, facts)?;
+    let role = frame_role(packet, child.role, facts);
     Ok(Element {
         frame: Frame {
             role,

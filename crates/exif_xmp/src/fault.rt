@@ -19,14 +19,6 @@ pub enum Fault {
     Xml(XmlFault),
     /// It is in UTF-16 or UTF-32; UTF-8 is read.
     Encoding,
-    /// An element for a property has no namespace.
-    NoNamespace,
-    /// An element is where XMP allows none of its name.
-    Element,
-    /// Text is beside elements.
-    Mixed,
-    /// `rdf:parseType` is not `Resource`.
-    ParseType,
     /// Elements are nested deeper than [`MAX_DEPTH`](crate::limits::MAX_DEPTH).
     TooDeep,
     /// More properties, items of an array or namespace declarations than
@@ -117,10 +109,6 @@ impl fmt::Display for Fault {
         let text = match self {
             Fault::Xml(xml) => xml_text(*xml),
             Fault::Encoding => "XMP in UTF-16 or UTF-32",
-            Fault::NoNamespace => "XMP with a property without a namespace",
-            Fault::Element => "XMP with an element that is not allowed there",
-            Fault::Mixed => "XMP with text beside elements",
-            Fault::ParseType => "XMP with an rdf:parseType other than Resource",
             Fault::TooDeep => "XMP with elements nested too deeply",
             Fault::TooMany => "XMP with too many properties, items or namespaces",
             Fault::TooLong => "XMP with a path or a namespace that is too long",

@@ -8,7 +8,7 @@ ghost use Rattle.exif_xmp.specs.States.{state_view};
 use crate::fault::ReadError;
 use crate::frame::Role;
 use crate::path::Step;
-use crate::property::Spans;
+use crate::property::{Form, Spans};
 use crate::role::{Facts, Meaning, meaning_of};
 use crate::state::{State, refused, with_property};
 use exif_xml::{Attribute, Span};
@@ -32,6 +32,7 @@ fn with_meant(
             end: attribute.value.end,
         },
         language: state.top.language,
+        form: Form::Text,
     };
     match meaning {
         Meaning::Value => with_property(alloc, packet, state, Step::Nothing, spans),
@@ -91,6 +92,7 @@ fn with_resource(
                     end: state.top.content,
                 },
                 language: state.top.language,
+                form: Form::Text,
             };
             with_property(alloc, packet, state, Step::Nothing, spans)
         }
@@ -115,6 +117,6 @@ pub fn with_fields(
             with_attributes(alloc, packet, state, attributes)
         }
         Role::Node => with_attributes(alloc, packet, state, attributes),
-        Role::Outside | Role::Rdf | Role::Array => Ok(state),
+        Role::Outside | Role::Rdf | Role::Array | Role::Unread | Role::Inside => Ok(state),
     }
 }

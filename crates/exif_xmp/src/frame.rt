@@ -17,6 +17,10 @@ pub enum Role {
     Property,
     /// `rdf:Bag`, `rdf:Seq` or `rdf:Alt`.
     Array,
+    /// An element of a form that XMP does not have: its content is not read.
+    Unread,
+    /// An element in one that is not read.
+    Inside,
 }
 
 /// An element that is open.

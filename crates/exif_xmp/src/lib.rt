@@ -21,5 +21,5 @@ mod step;
 mod tag;
 
 pub use fault::{Fault, ReadError, Refusal};
-pub use property::Property;
+pub use property::{Form, Property};
 pub use reading::read;

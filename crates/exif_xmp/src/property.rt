@@ -1,7 +1,7 @@
 //! Properties.
 
 ghost use Rattle.std.specs.Prelude.{◌≡◌, ◌++◌, ◌∷◌, [], map, IfOk};
-ghost use Rattle.exif_xmp.specs.Properties.{bytes_view, language_of, property_of, property_view};
+ghost use Rattle.exif_xmp.specs.Properties.{bytes_view, language_of, property_of, property_view, value_text};
 ghost use Rattle.exif_xmp.specs.Refusals.{Gives};
 
 use crate::fault::{Fault, ReadError, Refusal};
@@ -11,7 +11,18 @@ use crate::path::{Step, path_of, root_of};
 use exif_xml::{Span, slice_of, text_of};
 use std::alloc::{AllocError, Global};
 
-/// A property of a packet whose value is text.
+/// What the value of a property is.
+#[derive(Clone, Copy, Debug, PartialEq, Eq)]
+pub enum Form {
+    /// Text.
+    Text,
+    /// XML of a form that XMP does not have: a typed node, an `rdf:parseType` other than
+    /// `Resource`, an element that RDF does not allow there, or text beside elements. It is not
+    /// read: [`Property::value`] and [`Property::whole`] are where that element or text is.
+    Unread,
+}
+
+/// A property of a packet: text, or XML of a form that XMP does not have.
 ///
 /// All names and texts are bytes of the packet, which are UTF-8 in a valid one.
 #[derive(Debug, Drop)]
@@ -24,7 +35,7 @@ pub struct Property {
     /// usual prefix, whatever the packet declares (see [`exif_xml::usual_prefix`]); others have
     /// that of the packet.
     pub path: Vec<u8>,
-    /// Its text, with references and CDATA sections decoded.
+    /// Its text, with references and CDATA sections decoded; empty for [`Form::Unread`].
     pub text: Vec<u8>,
     /// The language of the text: the `xml:lang` of the nearest element that contains it and has one
     /// (XML 1.0, 2.12); `None` where there is none, or where that one is empty.
@@ -33,6 +44,8 @@ pub struct Property {
     pub value: Span,
     /// Where the packet has the element, or the attribute without its closing quote.
     pub whole: Span,
+    /// Whether the value is text.
+    pub form: Form,
 }
 
 /// Where the packet has a property.
@@ -44,6 +57,8 @@ pub struct Spans {
     pub whole: Span,
     /// Its language.
     pub language: Option<Span>,
+    /// Whether its value is text.
+    pub form: Form,
 }
 
 // The bytes of a span, if there is one.
@@ -60,6 +75,19 @@ fn language_of(
             Ok(Some(bytes))
         }
         None => Ok(None),
+    }
+}
+
+// The text of a value.
+fn value_text(alloc: Global, packet: &[u8], spans: Spans) -> Result<Vec<u8>, ReadError>
+    ensures { Gives (λ v. v.items) result (value_text packet.now spans) }
+{
+    match spans.form {
+        Form::Text => {
+            let text = text_of(alloc, spans.value.start, slice_of(packet, spans.value))?;
+            Ok(text)
+        }
+        Form::Unread => Ok(Vec::new(alloc)),
     }
 }
 
@@ -84,7 +112,7 @@ pub fn property_of(
             offset: spans.whole.start,
         }));
     }
-    let text = text_of(alloc, spans.value.start, slice_of(packet, spans.value))?;
+    let text = value_text(alloc, packet, spans)?;
     let namespace = Vec::from_slice(alloc, uri)?;
     let language = language_of(alloc, packet, spans.language)?;
     Ok(Property {
@@ -94,6 +122,7 @@ pub fn property_of(
         language,
         value: spans.value,
         whole: spans.whole,
+        form: spans.form,
     })
 }
 

@@ -95,7 +95,7 @@ fn read_all(alloc: Global, packet: &[u8]) -> Result<State, ReadError>
     Err(refused(Fault::Xml(XmlFault::Truncated), here))
 }
 
-/// The properties of an XMP packet, in document order.
+/// The properties of an XMP packet, in document order: that of an element is where it ends.
 ///
 /// The packet is the XML of a sidecar file, or of the XMP of a picture, with or without its
 /// `<?xpacket` lines, in UTF-8. The extended XMP of a JPEG file (XMP Specification, Part 3,
@@ -104,6 +104,11 @@ fn read_all(alloc: Global, packet: &[u8]) -> Result<State, ReadError>
 /// attribute; an empty array or structure has none. `rdf:value` is the value of the property that
 /// contains it, and the qualifiers beside it are fields.
 ///
+/// What RDF or XML allows and XMP does not is one property of [`Form::Unread`](crate::Form::Unread)
+/// each, with its spans and the path of what contains it, and reading goes on behind it: typed
+/// nodes, an `rdf:parseType` other than `Resource`, other elements than `rdf:li` in an array, each
+/// with the next index, text beside elements.
+///
 /// ```
 /// for property in &read(alloc, packet)? {
 ///     if property.path.as_slice() == b"xmp:Rating".as_slice() {
@@ -111,6 +116,9 @@ fn read_all(alloc: Global, packet: &[u8]) -> Result<State, ReadError>
 ///     }
 /// }
 /// ```
+///
+/// Bytes that are no UTF-8 and control characters are kept in texts as they are:
+/// [`exif_xml::invalid_character`] reports the first of them.
 ///
 /// It takes memory for the answer: the texts of the packet, and for each property a path and a URI
 /// within [`MAX_PATH_LEN`](crate::limits::MAX_PATH_LEN) and

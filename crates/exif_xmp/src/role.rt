@@ -1,7 +1,7 @@
 //! Which elements and attributes the RDF of XMP has, and what they mean.
 
 ghost use Rattle.std.specs.Prelude.{◌≡◌};
-ghost use Rattle.exif_xmp.specs.Roles.{array_child, child_of, facts_of, frame_role, meaning_named, meaning_of, node_child, outside_child, property_child, rdf_attribute, rdf_child, rdf_term, term_of, with_meaning, xml_attribute};
+ghost use Rattle.exif_xmp.specs.Roles.{array_child, child_of, facts_of, frame_role, inside_child, item_role, meaning_named, meaning_of, node_child, outside_child, parsed_role, property_child, rdf_attribute, rdf_child, rdf_term, term_of, unread_child, with_meaning, xml_attribute};
 
 use crate::fault::Fault;
 use crate::frame::{Frame, Role};
@@ -115,61 +115,91 @@ fn outside_child(term: Term) -> Child
     }
 }
 
+// An element of a form that XMP does not have.
+fn unread_child() -> Child
+    ensures { result ≡ unread_child }
+{
+    Child {
+        role: Role::Unread,
+        step: Step::Nothing,
+    }
+}
+
+// An element in one that is not read.
+fn inside_child() -> Child
+    ensures { result ≡ inside_child }
+{
+    Child {
+        role: Role::Inside,
+        step: Step::Nothing,
+    }
+}
+
 // An element in `rdf:RDF`.
-fn rdf_child(term: Term) -> Result<Child, Fault>
+fn rdf_child(term: Term) -> Child
     ensures { result ≡ rdf_child term }
 {
     match term {
-        Term::Description => Ok(Child {
+        Term::Description => Child {
             role: Role::Node,
             step: Step::Nothing,
-        }),
-        Term::Root | Term::Array | Term::Item | Term::Value | Term::Other => Err(Fault::Element),
+        },
+        Term::Root | Term::Array | Term::Item | Term::Value | Term::Other => unread_child(),
     }
 }
 
 // An element in one with properties.
-fn node_child(term: Term, name: Name) -> Result<Child, Fault>
+fn node_child(term: Term, name: Name) -> Child
     ensures { result ≡ node_child term name }
 {
     match term {
-        Term::Value => Ok(Child {
+        Term::Value => Child {
             role: Role::Property,
             step: Step::Nothing,
-        }),
+        },
         Term::Other => {
             if name.uri.start == name.uri.end {
-                return Err(Fault::NoNamespace);
+                return unread_child();
             }
-            Ok(Child {
+            Child {
                 role: Role::Property,
                 step: Step::Named(name),
-            })
+            }
         }
-        Term::Root | Term::Description | Term::Array | Term::Item => Err(Fault::Element),
+        Term::Root | Term::Description | Term::Array | Term::Item => unread_child(),
     }
 }
 
 // An element in a property.
-fn property_child(term: Term, has_value: bool, has_text: bool) -> Result<Child, Fault>
+fn property_child(term: Term, has_value: bool, has_text: bool) -> Child
     ensures { result ≡ property_child term has_value has_text }
 {
     if has_text {
-        return Err(Fault::Mixed);
+        return inside_child();
     }
     if has_value {
-        return Err(Fault::Element);
+        return unread_child();
     }
     match term {
-        Term::Description => Ok(Child {
+        Term::Description => Child {
             role: Role::Node,
             step: Step::Nothing,
-        }),
-        Term::Array => Ok(Child {
+        },
+        Term::Array => Child {
             role: Role::Array,
             step: Step::Nothing,
-        }),
-        Term::Root | Term::Item | Term::Value | Term::Other => Err(Fault::Element),
+        },
+        Term::Root | Term::Item | Term::Value | Term::Other => unread_child(),
+    }
+}
+
+// What an element in an array is.
+fn item_role(term: Term) -> Role
+    ensures { result ≡ item_role term }
+{
+    match term {
+        Term::Item => Role::Property,
+        Term::Root | Term::Description | Term::Array | Term::Value | Term::Other => Role::Unread,
     }
 }
 
@@ -177,20 +207,13 @@ fn property_child(term: Term, has_value: bool, has_text: bool) -> Result<Child, 
 fn array_child(term: Term, items: usize) -> Result<Child, Fault>
     ensures { result ≡ array_child term items }
 {
-    match term {
-        Term::Item => {
-            if MAX_ITEMS <= items {
-                return Err(Fault::TooMany);
-            }
-            Ok(Child {
-                role: Role::Property,
-                step: Step::Item(items + 1),
-            })
-        }
-        Term::Root | Term::Description | Term::Array | Term::Value | Term::Other => {
-            Err(Fault::Element)
-        }
+    if MAX_ITEMS <= items {
+        return Err(Fault::TooMany);
     }
+    Ok(Child {
+        role: item_role(term),
+        step: Step::Item(items + 1),
+    })
 }
 
 /// The element with this name in the open one, `top`.
@@ -200,10 +223,11 @@ pub fn child_of(packet: &[u8], top: Frame, name: Name) -> Result<Child, Fault>
     let term = term_of(packet, name);
     match top.role {
         Role::Outside => Ok(outside_child(term)),
-        Role::Rdf => rdf_child(term),
-        Role::Node => node_child(term, name),
-        Role::Property => property_child(term, top.has_value, top.has_text),
+        Role::Rdf => Ok(rdf_child(term)),
+        Role::Node => Ok(node_child(term, name)),
+        Role::Property => Ok(property_child(term, top.has_value, top.has_text)),
         Role::Array => array_child(term, top.items),
+        Role::Unread | Role::Inside => Ok(inside_child()),
     }
 }
 
@@ -326,23 +350,37 @@ pub fn facts_of(
     Ok(facts)
 }
 
+// The role of a property with this `rdf:parseType`.
+fn parsed_role(packet: &[u8], parse_type: Option<Span>) -> Role
+    ensures { result ≡ parsed_role packet.now parse_type }
+{
+    match parse_type {
+        None => Role::Property,
+        Some(value) => {
+            if slice_of(packet, value) == b"Resource".as_slice() {
+                return Role::Node;
+            }
+            Role::Unread
+        }
+    }
+}
+
 /// The role of an element with these attributes.
-pub fn frame_role(packet: &[u8], role: Role, facts: Facts) -> Result<Role, Fault>
+pub fn frame_role(packet: &[u8], role: Role, facts: Facts) -> Role
     ensures { result ≡ frame_role packet.now role facts }
 {
     match role {
-        Role::Property => match facts.parse_type {
-            None => Ok(Role::Property),
-            Some(value) => {
-                if slice_of(packet, value) == b"Resource".as_slice() {
-                    return Ok(Role::Node);
-                }
-                Err(Fault::ParseType)
+        Role::Property => parsed_role(packet, facts.parse_type),
+        Role::Array => {
+            if facts.has_fields {
+                return Role::Unread;
             }
-        },
-        Role::Outside => Ok(Role::Outside),
-        Role::Rdf => Ok(Role::Rdf),
-        Role::Node => Ok(Role::Node),
-        Role::Array => Ok(Role::Array),
+            Role::Array
+        }
+        Role::Outside => Role::Outside,
+        Role::Rdf => Role::Rdf,
+        Role::Node => Role::Node,
+        Role::Unread => Role::Unread,
+        Role::Inside => Role::Inside,
     }
 }

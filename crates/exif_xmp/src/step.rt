@@ -28,8 +28,8 @@ pub fn token_step(
     ensures { Gives state_view result (token_step packet.now (state_view state) offset token) }
 {
     match token.kind {
-        Kind::Text => character_data(packet, state, offset, token.len),
-        Kind::Cdata => with_text(state, offset),
+        Kind::Text => character_data(alloc, packet, state, offset, token.len),
+        Kind::Cdata => with_text(alloc, packet, state, offset, token.len),
         Kind::Ignored => Ok(state),
         Kind::Start(n, is_empty) => {
             let tag = start_tag_at(offset, n, is_empty, token.len);
