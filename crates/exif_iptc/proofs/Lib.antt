@@ -1,3 +1,4 @@
 pub mod BigEndian
+pub mod ScanParts
 pub mod Scans
 pub mod TextSteps

@@ -4,6 +4,7 @@ pub mod Examples
 pub mod FaultTexts
 pub mod Forms
 pub mod Numbers
+pub mod Promises
 pub mod Readings
 pub mod Refusals
 pub mod RowViews

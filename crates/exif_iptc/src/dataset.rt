@@ -47,7 +47,8 @@ fn placed(offset: usize, header: Header) -> Dataset
 
 /// The datasets of IPTC data in order, up to the end or the first bytes that are refused.
 ///
-/// Zeros may follow the last dataset. It takes memory for the datasets only.
+/// Zeros may follow the last dataset. No byte is skipped:
+/// [`no_byte_is_skipped`](crate::laws::no_byte_is_skipped). It takes memory for the datasets only.
 ///
 /// # Errors
 ///

@@ -11,6 +11,7 @@ pub mod fault;
 mod form;
 pub mod header;
 pub mod kind;
+pub mod laws;
 pub mod names;
 mod number;
 pub mod reading;
