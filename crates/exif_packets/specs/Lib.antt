@@ -2,3 +2,5 @@ pub mod Examples
 pub mod Fields
 pub mod Packets
 pub mod Portions
+pub mod RawProfiles
+pub mod TextChunks

@@ -9,7 +9,11 @@
 mod field;
 mod packet;
 mod portion;
+mod raw_profile;
+mod text_chunk;
 
 pub use field::{FieldPacket, packets_of_fields};
 pub use packet::{Form, Packet, content_of, packets};
 pub use portion::{JoinError, joined};
+pub use raw_profile::profile_of;
+pub use text_chunk::{Layout, layout_of};

@@ -1,4 +1,4 @@
-use Rattle.std.proofs.Common.{◌≡◌, ◌++◌, drop, map}
+use Rattle.std.proofs.Common.{◌≡◌, ◌++◌, map}
 use Rattle.std.specs.List.{filter_map}
 use Rattle.exif_packets.specs.Fields.{held_view, packet_in}
 use Rattle.exif_packets.proofs.field.packets_of_fields.Given as goal
