@@ -1,15 +1,16 @@
 -- Worked examples.
 use Rattle.std.specs.Prelude.{ℕ, ◌≡◌, refl, true, ◌∷◌, [], codes, Some, None, Ok, Err}
 use Rattle.exif_xml.specs.declared.attribute.Attribute.{Attribute}
-use Rattle.exif_xml.specs.declared.fault.Fault.TheVariants.{Doctype, InvalidReference, Truncated, UndeclaredPrefix}
+use Rattle.exif_xml.specs.declared.fault.Fault.TheVariants.{Doctype, InvalidReference, Malformed, Truncated, UndeclaredPrefix}
 use Rattle.exif_xml.specs.declared.token.Kind.TheVariants.{Cdata, Start}
 use Rattle.exif_xml.specs.Attributes.{attribute_at, attributes, next_at}
 use Rattle.exif_xml.specs.Characters.{invalid_character}
 use Rattle.exif_xml.specs.Names.{resolve}
 use Rattle.exif_xml.specs.Prefixes.{core_prefix, usual_prefix}
 use Rattle.exif_xml.specs.Refusals.{walk}
+use Rattle.exif_xml.specs.Roots.{nested_at, nesting_of, root_fault}
 use Rattle.exif_xml.specs.Texts.{chunk_at, reference_at, text_of}
-use Rattle.exif_xml.specs.Tokens.{declaration_at, markup_at, start_at, token_at}
+use Rattle.exif_xml.specs.Tokens.{declaration_at, end_at, markup_at, start_at, token_at}
 
 -- a `>` in quotes does not end a tag
 start_tag : token_at (codes "<a b='>'/> ") ≡ Ok (record { kind = Start 1 true; len = 10 })
@@ -93,3 +94,20 @@ no_latin = refl
 
 no_half : invalid_character (97 ∷ 206 ∷ []) ≡ Some 1
 no_half = refl
+
+-- one root, none, a second one, and text outside it
+one_root : root_fault (codes "<?x?><a>b<c/></a> <!--d-->") ≡ None
+unfolding nesting_of nested_at walk token_at markup_at start_at end_at declaration_at
+one_root = refl
+
+no_root : root_fault (codes "<!--a-->") ≡ Some (record { fault = Truncated; offset = 8 })
+unfolding nesting_of nested_at walk token_at markup_at start_at end_at declaration_at
+no_root = refl
+
+second_root : root_fault (codes "<a/> <b/>") ≡ Some (record { fault = Malformed; offset = 5 })
+unfolding nesting_of nested_at walk token_at markup_at start_at end_at declaration_at
+second_root = refl
+
+text_outside : root_fault (codes "<a></a>b") ≡ Some (record { fault = Malformed; offset = 7 })
+unfolding nesting_of nested_at walk token_at markup_at start_at end_at declaration_at
+text_outside = refl

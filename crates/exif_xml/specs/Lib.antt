@@ -5,6 +5,7 @@ pub mod FaultTexts
 pub mod Names
 pub mod Prefixes
 pub mod Refusals
+pub mod Roots
 pub mod Scans
 pub mod Texts
 pub mod Tokens

@@ -6,8 +6,8 @@
 //!
 //! The checks are those that a reader of untrusted files needs, and fewer than a validating parser
 //! has: a document type is refused, so no entity is ever expanded, and each refusal has its
-//! offset. That all bytes are characters of XML 1.0 in UTF-8 is a test of its own,
-//! [`invalid_character`].
+//! offset. Two tests of their own are beside these: [`invalid_character`], whether all bytes are
+//! characters of XML 1.0 in UTF-8, and [`root_fault`], whether there is one root element.
 #![tactic(auto)]
 
 pub mod attribute;
@@ -15,6 +15,7 @@ pub mod characters;
 pub mod fault;
 pub mod name;
 pub mod prefix;
+pub mod root;
 pub mod scan;
 pub mod span;
 pub mod text;
@@ -25,6 +26,7 @@ pub use characters::invalid_character;
 pub use fault::{Fault, ReadError, Refusal};
 pub use name::{Binding, Name, resolve, with_bindings};
 pub use prefix::usual_prefix;
+pub use root::root_fault;
 pub use span::{Span, slice_of};
 pub use text::text_of;
 pub use token::{Kind, Token, token_at};

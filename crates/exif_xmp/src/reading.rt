@@ -117,8 +117,9 @@ fn read_all(alloc: Global, packet: &[u8]) -> Result<State, ReadError>
 /// }
 /// ```
 ///
-/// Bytes that are no UTF-8 and control characters are kept in texts as they are:
-/// [`exif_xml::invalid_character`] reports the first of them.
+/// Some packets are read that are not well-formed XML. Two tests beside this call report that:
+/// [`exif_xml::invalid_character`] the first bytes that are no characters in UTF-8, which are kept
+/// in texts as they are, and [`exif_xml::root_fault`] whether there is one root element.
 ///
 /// It takes memory for the answer: the texts of the packet, and for each property a path and a URI
 /// within [`MAX_PATH_LEN`](crate::limits::MAX_PATH_LEN) and
