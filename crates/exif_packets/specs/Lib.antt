@@ -1,6 +1,7 @@
 pub mod Examples
 pub mod Fields
 pub mod Packets
+pub mod PngPackets
 pub mod Portions
 pub mod RawProfiles
 pub mod TextChunks

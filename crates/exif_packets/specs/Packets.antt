@@ -46,6 +46,10 @@ parts_of file = parts_or file (inventory file)
 abbrev pub packets : List ℕ → Option (List Packet)
 packets file = option_map packets_in (parts_of file)
 
+-- the bytes from an offset on, so many if there are
+abbrev pub slice : ℕ → ℕ → List ℕ → List ℕ
+slice offset len bytes = take len (drop offset bytes)
+
 -- the bytes of a packet
 abbrev pub content_of : Packet → List ℕ → List ℕ
-content_of packet file = take packet.len (drop packet.offset file)
+content_of packet file = slice packet.offset packet.len file

@@ -2,7 +2,7 @@
 
 ghost use Rattle.std.specs.Prelude.{◌≡◌, IfOk};
 ghost use Rattle.std.specs.Option.{option_map};
-ghost use Rattle.exif_packets.specs.Packets.{content_of, form_of, packet_of, packets, packets_in, parts_of};
+ghost use Rattle.exif_packets.specs.Packets.{content_of, form_of, packet_of, packets, packets_in, parts_of, slice};
 
 use exif_inventory::{Kind, Part, inventory};
 use exif_inventory_heif as heif;
@@ -97,10 +97,17 @@ pub fn packets(alloc: Global, file: &[u8]) -> Result<Option<Vec<Packet>>, AllocE
     }
 }
 
+/// The bytes from an offset on, so many if there are.
+pub(crate) fn slice(offset: usize, len: usize, bytes: &[u8]) -> &[u8]
+    ensures { result.now ≡ slice offset len bytes.now }
+{
+    let rest = &bytes[offset.min(bytes.len())..];
+    &rest[..len.min(rest.len())]
+}
+
 /// The bytes of a packet, as far as the file has them.
 pub fn content_of(packet: Packet, file: &[u8]) -> &[u8]
     ensures { result.now ≡ content_of packet file.now }
 {
-    let rest = &file[packet.offset.min(file.len())..];
-    &rest[..packet.len.min(rest.len())]
+    slice(packet.offset, packet.len, file)
 }
