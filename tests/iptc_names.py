@@ -67,7 +67,7 @@ def code_rows():
         source = file.read()
     rows = {}
     for record, (_, static) in TABLES.items():
-        count, body = re.search(rf"static {static}: \[Row; (\d+)\] = \[\n(.*?)\];", source, re.S).groups()
+        count, body = re.search(rf"static {static}: \[Row; (\d+)\] = \[(.*?)\];", source, re.S).groups()
         found = re.findall(r'row!\((\d+) "([^"]*)" (\w+)\)', body)
         assert len(found) == int(count) == body.count("row!"), static
         rows.update({(record, int(number)): (name, kind) for number, name, kind in found})
