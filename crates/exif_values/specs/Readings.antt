@@ -4,10 +4,12 @@ use Rattle.std.specs.List.{list_any}
 use Rattle.std.specs.Option.{option_map}
 use Rattle.exif_packets.specs.Fields.{Held, packets_of_fields}
 use Rattle.exif_packets.specs.Packets.{content_of, packets}
+use Rattle.exif_packets.specs.PngPackets.{InText, png_packets}
 use Rattle.exif_packets.specs.Portions.{is_portion, joined}
 use Rattle.exif_packets.specs.declared.packet.Form.{Form}
 use Rattle.exif_packets.specs.declared.packet.Form.TheVariants.{Xmp, XmpPortion, Iptc}
 use Rattle.exif_packets.specs.declared.packet.Packet.{Packet}
+use Rattle.exif_packets.specs.declared.png_packet.TextFault.{TextFault}
 use Rattle.exif_types.specs.declared.field.Field.{Field}
 use Rattle.exif_xmp.specs.Properties.{PropertyView}
 use Rattle.exif_xmp.specs.Reading as xmp
@@ -88,10 +90,6 @@ with_strays all found =
 abbrev pub read_all : List ℕ → List Packet → Found
 read_all file all = with_strays all (with_packets true file all all nothing)
 
--- what the packets of a file have
-abbrev pub read : List ℕ → Option Found
-read file = option_map (read_all file) (packets file)
-
 -- with what a packet in the value of a field has
 abbrev pub with_held : Form → List ℕ → Found → Found
 with_held Xmp content found = with_xmp None content found
@@ -109,3 +107,29 @@ with_held_packets (held ∷ rest) found = with_held_packets rest (with_field_pac
 -- with what the fields have
 abbrev pub with_fields : Bool → List Field → Found → Found
 with_fields little fields found = with_held_packets (packets_of_fields little fields) found
+
+-- with what a packet in a text of a PNG file has
+abbrev pub with_form_at : Form → ℕ → List ℕ → Found → Found
+with_form_at Xmp offset content found = with_xmp (Some offset) content found
+with_form_at Iptc offset content found = with_iptc (Some offset) content found
+with_form_at XmpPortion offset content found = found
+
+abbrev pub with_content : Form → ℕ → Result (List ℕ) TextFault → Found → Found
+with_content form offset (Ok content) found = with_form_at form offset content found
+with_content form offset (Err fault) found = with_fault (cause.Text fault) (Some offset) found
+
+abbrev pub with_text : InText → Found → Found
+with_text text found = with_content text.form text.offset text.content found
+
+-- with what such packets have, one after another
+abbrev pub with_texts : List InText → Found → Found
+with_texts [] found = found
+with_texts (text ∷ texts) found = with_texts texts (with_text text found)
+
+-- what these packets of a file have, and those in its texts, each of at most 16 MiB
+abbrev pub read_whole : List ℕ → List Packet → Found
+read_whole file all = with_texts (png_packets 16777216 file) (read_all file all)
+
+-- what the packets of a file have
+abbrev pub read : List ℕ → Option Found
+read file = option_map (read_whole file) (packets file)

@@ -1,6 +1,7 @@
 //! What is not read of the metadata of a picture.
 
 use exif_iptc::Refusal as IptcRefusal;
+use exif_packets::TextFault;
 use exif_xmp::Refusal as XmpRefusal;
 
 /// Why a packet, or bytes of one, are not read.
@@ -14,6 +15,8 @@ pub enum Cause {
     /// [`MAX_PROPERTIES`](crate::values::MAX_PROPERTIES) with those before them: none of them is
     /// listed.
     TooMany,
+    /// A packet in a text of a PNG file is not read.
+    Text(TextFault),
     /// IPTC data are refused from a dataset on: those before it are read.
     Iptc(IptcRefusal),
 }

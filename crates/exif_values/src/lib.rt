@@ -13,5 +13,5 @@ mod tests;
 pub mod values;
 
 pub use fault::{Cause, Fault};
-pub use reading::{read, read_fields};
+pub use reading::{MAX_TEXT_LEN, read, read_fields};
 pub use values::Values;

@@ -1,22 +1,27 @@
 //! The packets of a picture, read.
 
-ghost use Rattle.std.specs.Prelude.{◌≡◌, IfOk, OnOk};
+ghost use Rattle.std.specs.Prelude.{◌≡◌, map, IfOk, OnOk};
 ghost use Rattle.std.specs.List.{list_any};
 ghost use Rattle.std.specs.Option.{option_map};
 ghost use Rattle.exif_packets.specs.Fields.{held_view};
+ghost use Rattle.exif_packets.specs.PngPackets.{text_view};
 ghost use Rattle.exif_packets.specs.Portions.{is_portion};
-ghost use Rattle.exif_values.specs.Readings.{read, read_all, with_extension, with_field_packet, with_fields, with_main, with_packet, with_rest, with_strays, with_xmp};
+ghost use Rattle.exif_values.specs.Readings.{read, read_all, read_whole, with_extension, with_field_packet, with_fields, with_main, with_packet, with_rest, with_strays, with_text, with_texts, with_xmp};
 ghost use Rattle.exif_values.specs.Values.{values_view};
 
 use crate::extension::{extension_id, names_one};
 use crate::fault::Cause;
 use crate::values::Values;
 use exif_packets::{
-    FieldPacket, Form, JoinError, Packet, content_of, joined, packets, packets_of_fields,
+    FieldPacket, Form, JoinError, Packet, TextPacket, content_of, joined, packets,
+    packets_of_fields, png_packets,
 };
 use exif_types::Exif;
 use exif_xmp::ReadError;
 use std::alloc::{AllocError, Global};
+
+/// How many bytes of a text of a PNG file are decoded at most: 16 MiB.
+pub const MAX_TEXT_LEN: usize = 16_777_216;
 
 // Adds the properties of an XMP packet.
 fn add_xmp(
@@ -152,16 +157,55 @@ fn read_packets(alloc: Global, file: &[u8], packets: &[Packet]) -> Result<Values
     Ok(values)
 }
 
+// Adds what a packet in a text has.
+fn add_text(alloc: Global, text: &TextPacket, values: &mut Values) -> Result<(), AllocError>
+    ensures { OnOk result (values_view values.new
+        ≡ with_text (text_view text.now) (values_view values.old)) }
+{
+    let offset = Some(text.offset);
+    match &text.content {
+        Ok(content) => match text.form {
+            Form::Xmp => add_xmp(alloc, offset, content.as_slice(), values),
+            Form::Iptc => values.add_iptc(alloc, offset, content.as_slice()),
+            Form::XmpPortion => Ok(()),
+        },
+        Err(fault) => values.add_fault(Cause::Text(*fault), offset),
+    }
+}
+
+// Adds what packets in texts have.
+fn add_texts(alloc: Global, texts: &[TextPacket], values: &mut Values) -> Result<(), AllocError>
+    ensures { OnOk result (values_view values.new
+        ≡ with_texts (map text_view texts.now) (values_view values.old)) }
+{
+    for text in texts {
+        add_text(alloc, text, values)?;
+    }
+    Ok(())
+}
+
+// What the packets of a file have, and those in its texts.
+fn read_whole(alloc: Global, file: &[u8], packets: &[Packet]) -> Result<Values, AllocError>
+    ensures { IfOk result (λ values. values_view values ≡ read_whole file.now packets.now) }
+{
+    let mut values = read_packets(alloc, file, packets)?;
+    let texts = png_packets(alloc, MAX_TEXT_LEN, file)?;
+    add_texts(alloc, texts.as_slice(), &mut values)?;
+    Ok(values)
+}
+
 /// The XMP properties and the IPTC values of a JPEG, WebP, PNG, JPEG XL, HEIF or AVIF file, in the
-/// order of its packets, the first XMP packet with the rest of it where it is longer than a segment;
-/// and what is not read. `None` for a file of another format.
+/// order of its packets, the first XMP packet with the rest of it where it is longer than a segment,
+/// and behind them those in the texts of a PNG file; and what is not read. `None` for a file of
+/// another format.
 ///
-/// It takes the memory of the properties and values, and of the list of the file's parts.
+/// It takes the memory of the properties and values, of the list of the file's parts, and of a text
+/// of at most [`MAX_TEXT_LEN`] bytes.
 pub fn read(alloc: Global, file: &[u8]) -> Result<Option<Values>, AllocError>
     ensures { IfOk result (λ found. option_map values_view found ≡ read file.now) }
 {
     match packets(alloc, file)? {
-        Some(packets) => Ok(Some(read_packets(alloc, file, packets.as_slice())?)),
+        Some(packets) => Ok(Some(read_whole(alloc, file, packets.as_slice())?)),
         None => Ok(None),
     }
 }
