@@ -2,9 +2,11 @@
 
 use crate::fault::Cause;
 use crate::reading::read;
+use crate::values::Values;
 use exif_iptc::Content;
 use exif_xmp::Fault as XmpFault;
 use std::alloc::{AllocError, Global};
+use std::process::Abort;
 use std::test::Fail;
 
 // The packet, without its padding.
@@ -41,6 +43,15 @@ const RESOURCE: &[u8] = b"Photoshop 3.0\x008BIM\x04\x04\0\0\0\0\0\x69\x1c\x01\x5
 \x1c\x01\0\0\x02\0\x04\x1c\x02\x19\0\x05beach\x1c\x02\x19\0\x03sea\x1c\x027\0\x0820240501\
 \x1c\x02<\0\x0b123000+0200\x1c\x02P\0\x0cZo\xc3\xab M\xc3\xbcller\x1c\x02Z\0\x05Porto\
 \x1c\x02x\0\x04Zo\xc3\xab\x1c\x02\0\0\x02\0\x04\0";
+
+// The chunk of a PNG file in which exiftool wrote the same IPTC data.
+const TEXT: &[u8] =
+    b"\0\0\0\xb4zTXtRaw profile type iptc\0\0x\x9cENK\x0a\x021\x0c\xdd\xf7\x14s\x84\xe6\xdfY\xbbr\
+\xe7\xc2\x0bL;\x16\x04A\xf1\xfe\x0b\xf3\x14\xc6\x84\x94\xf7I\xe8+\xe7\xcb\xf5\xb4\xbc\xde\
+\xcfy\x7f\xdc\xca\x82\"jE\x9a\xb2\xae\xbaW\xcd>\xcaW\x1a\x95lK(\xd4\xd94\xc0\xbf\x16\xe7h2\
+\xa65\x919\xbb9\xb9\x14o\x87(!\x10\xc1%\x927a\xa99\x9a\xaf\xe5\xfc\x9c\x91N\x17J]R\xcb\xe6\
+\x8e\xad\x02\x88\x05\xc3o\xc36\x9fC\xb6\xceU\xf7!}8\xda\x82\xbf\x1b\xc8gV}\x06\x87\xfa\x84\
+\x16\x0d\xf9pUp\x06\xe9\x1f\xbb\xd6\xf2\x01\x09\x02:\xfe\xa1|\xd9\x1c";
 
 // What is before an XMP packet in its segment.
 const XMP_ID: &[u8] = b"http://ns.adobe.com/xap/1.0/\0";
@@ -89,6 +100,32 @@ fn start(alloc: Global) -> Result<Vec<u8>, AllocError> {
     Vec::from_slice(alloc, &[0xff, 0xd8])
 }
 
+// Checks the IPTC values that exiftool wrote.
+fn check_iptc(rt: &impl Abort, values: &Values) -> Result<(), Fail> {
+    let texts = [
+        "beach",
+        "sea",
+        "2024:05:01",
+        "12:30:00+02:00",
+        "Zoë Müller",
+        "Porto",
+        "Zoë",
+    ];
+    let shown = values
+        .iptc
+        .iter()
+        .filter(|value| value.dataset.record_number == 2);
+    for (value, text) in shown.zip(&texts) {
+        let Content::Text(found) = &value.content else {
+            assert!(rt; false);
+            return Ok(());
+        };
+        assert_eq!(rt; found.as_str(), *text);
+    }
+    assert_eq!(rt; values.iptc.len(), 10);
+    Ok(())
+}
+
 #[test]
 fn packets_of_exiftool(rt: HostRuntime) -> Result<(), Fail> {
     let alloc = rt.alloc();
@@ -112,27 +149,7 @@ fn packets_of_exiftool(rt: HostRuntime) -> Result<(), Fail> {
         assert_eq!(rt; property.path.as_slice(), *path);
         assert_eq!(rt; property.text.as_slice(), *text);
     }
-    let texts = [
-        "beach",
-        "sea",
-        "2024:05:01",
-        "12:30:00+02:00",
-        "Zoë Müller",
-        "Porto",
-        "Zoë",
-    ];
-    let shown = values
-        .iptc
-        .iter()
-        .filter(|value| value.dataset.record_number == 2);
-    for (value, text) in shown.zip(&texts) {
-        let Content::Text(found) = &value.content else {
-            assert!(rt; false);
-            return Ok(());
-        };
-        assert_eq!(rt; found.as_str(), *text);
-    }
-    assert_eq!(rt; values.iptc.len(), 10);
+    check_iptc(&rt, &values)?;
     assert!(rt; values.faults.is_empty());
     Ok(())
 }
@@ -180,5 +197,20 @@ fn what_is_not_read_is_named(rt: HostRuntime) -> Result<(), Fail> {
 fn another_format_has_none(rt: HostRuntime) -> Result<(), Fail> {
     let found = read(rt.alloc(), b"MM\0*\0\0\0\x08\0\0\0\0\0\0")?;
     assert!(rt; found.is_none());
+    Ok(())
+}
+
+#[test]
+fn texts_of_a_png_file(rt: HostRuntime) -> Result<(), Fail> {
+    let alloc = rt.alloc();
+    let mut file = Vec::from_slice(alloc, b"\x89PNG\r\n\x1a\n")?;
+    file.extend_from_slice(TEXT)?;
+    let Some(values) = read(alloc, file.as_slice())? else {
+        assert!(rt; false);
+        return Ok(());
+    };
+    check_iptc(&rt, &values)?;
+    assert!(rt; values.xmp.is_empty());
+    assert!(rt; values.faults.is_empty());
     Ok(())
 }
