@@ -1,0 +1,10 @@
+pub mod Bytes
+pub mod Boxes
+pub mod Kinds
+pub mod Parts
+pub mod Pieces
+pub mod Walks
+pub mod Keys
+pub mod Named
+pub mod Files
+pub mod RefusalTexts
