@@ -200,12 +200,7 @@ fn find_row(record_number: u8, number: u8) -> Option<Row>
 }
 
 /// The name of a dataset by the number of its record and its own, or `None` if the standard defines
-/// none. The names are those under which exiftool shows the datasets.
-///
-/// ```
-/// assert_eq!(name_of(2, 25), Some("Keywords"));
-/// assert_eq!(name_of(2, 1), None);
-/// ```
+/// none. The names are those under which exiftool shows the datasets: 2:25 is `Keywords`.
 pub fn name_of(record_number: u8, number: u8) -> Option<&'static str>
     ensures { option_map (λ s. s.now) result ≡ name_of record_number number }
 {

@@ -46,14 +46,6 @@ pub fn read_lenient(alloc: Global, input: &[u8]) -> Result<Reading, AllocError>
 /// Texts are in UTF-8 if dataset 1:90 says so, and else are read as Latin-1; [`charset_of`] and
 /// [`read_lenient`] report which.
 ///
-/// ```
-/// for value in &read(rt.alloc(), &input)? {
-///     if let (Some(name), Content::Text(text)) = (value.name, &value.content) {
-///         println!(rt; "{name}: {text}")?;
-///     }
-/// }
-/// ```
-///
 /// # Errors
 ///
 /// The first bytes that are refused, with their offset, or out of memory. [`read_lenient`] returns

@@ -109,13 +109,8 @@ fn read_all(alloc: Global, packet: &[u8]) -> Result<State, ReadError>
 /// nodes, an `rdf:parseType` other than `Resource`, other elements than `rdf:li` in an array, each
 /// with the next index, text beside elements.
 ///
-/// ```
-/// for property in &read(alloc, packet)? {
-///     if property.path.as_slice() == b"xmp:Rating".as_slice() {
-///         rating = u64_of(&property.text);
-///     }
-/// }
-/// ```
+/// A rating is the text of the property with the path `xmp:Rating`, and the keywords are those with
+/// the paths `dc:subject[1]`, `dc:subject[2]` and so on.
 ///
 /// Some packets are read that are not well-formed XML. Two tests beside this call report that:
 /// [`exif_xml::invalid_character`] the first bytes that are no characters in UTF-8, which are kept
