@@ -1,9 +1,9 @@
 //! The XMP packets and the IPTC data of a picture: where its file holds them.
 //!
 //! [`packets`] lists those of a JPEG, WebP, PNG, JPEG XL, HEIF or AVIF file, and [`content_of`]
-//! gives the bytes of one. [`packets_of_fields`] lists those in the values of fields, as TIFF and raw
-//! files have them, and [`png_packets`] those in the texts of PNG files. [`joined`] joins the portions of an XMP packet that is too long for a
-//! segment of a JPEG file.
+//! gives the bytes of one. [`packets_of_fields`] lists those in the values of fields, as TIFF and
+//! raw files have them, and [`png_packets`] those in the texts of PNG files. [`joined`] joins the
+//! portions of an XMP packet that is too long for a segment of a JPEG file.
 #![tactic(auto)]
 
 mod field;

@@ -142,8 +142,8 @@ fn finished(joined: Prefix) -> Result<Vec<u8>, JoinError>
 /// `xmpNote:HasExtendedXMP` of the first part has, joined in the order of the file.
 ///
 /// Each portion begins where the one before it ends, and all have the length of the whole in them;
-/// else the answer is the offset from which bytes are missing, and so it is where there is no such
-/// portion. It takes the memory of the packet.
+/// else it is refused with the offset of the first missing byte. Without any portion that offset is
+/// 0. It takes the memory of the packet.
 pub fn joined(
     alloc: Global,
     file: &[u8],

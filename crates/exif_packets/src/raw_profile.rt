@@ -1,5 +1,5 @@
-//! Raw profiles: metadata as hexadecimal digits in a text, as ImageMagick and exiftool write them into
-//! PNG files.
+//! Raw profiles: metadata as hexadecimal digits in a text, as ImageMagick and exiftool write them
+//! into PNG files.
 
 ghost use Rattle.std.specs.Prelude.{◌≡◌, false, true, None, Some, IfOk, OnOk};
 ghost use Rattle.std.specs.Option.{option_map};

@@ -195,8 +195,8 @@ fn read_whole(alloc: Global, file: &[u8], packets: &[Packet]) -> Result<Values, 
 }
 
 /// The XMP properties and the IPTC values of a JPEG, WebP, PNG, JPEG XL, HEIF or AVIF file, in the
-/// order of its packets, the first XMP packet with the rest of it where it is longer than a segment,
-/// and behind them those in the texts of a PNG file; and what is not read. `None` for a file of
+/// order of its packets, the first XMP packet with the rest of it where that is in portions, and
+/// behind them those in the texts of a PNG file; and what is not read. `None` for a file of
 /// another format.
 ///
 /// It takes the memory of the properties and values, of the list of the file's parts, and of a text
