@@ -3,6 +3,8 @@ use Rattle.std.specs.Prelude.{ℕ, zero, suc, ◌+◌, ◌-◌, ◌*◌, ◌==�
 use Rattle.exif_locations.specs.declared.iptc.fault.Fault.{Fault}
 use Rattle.exif_locations.specs.declared.iptc.fault.Fault.TheVariants.{NoDataset, Extended, Cut}
 use Rattle.exif_locations.specs.declared.iptc.dataset.Dataset.{Dataset}
+use Rattle.exif_locations.specs.IptcNumbers.{location_numbers}
+use Rattle.exif_locations.specs.Words.{is_among}
 
 -- a step, and then the next, unless it is refused
 infixl 10 ◌>>=◌
@@ -10,12 +12,9 @@ abbrev pub ◌>>=◌ : {A B : Type 0} → Result A Fault → (A → Result B Fau
 (Ok x) >>= f = f x
 (Err e) >>= f = Err e
 
--- of a location: content location code and name, city, sublocation, state, the country's code and
--- name
+-- a dataset of a record and with a number is that of a location
 abbrev pub is_location : ℕ → ℕ → Bool
-is_location record_number number =
-    (record_number == 2) && ((number == 26) || (number == 27) || (number == 90) || (number == 92)
-    || (number == 95) || (number == 100) || (number == 101))
+is_location record_number number = (record_number == 2) && is_among location_numbers number
 
 -- all bytes are zero
 abbrev pub all_zero : List ℕ → Bool

@@ -1,11 +1,16 @@
 pub mod FaultTexts
 pub mod IptcDatasets
+pub mod IptcNumbers
 pub mod IptcPromises
+pub mod LocationNames
+pub mod NamesExamples
 pub mod Spaced
+pub mod TextNames
 pub mod Texts
 pub mod TextsExamples
 pub mod Unread
 pub mod UnreadExamples
+pub mod Words
 pub mod XmpErasing
 pub mod XmpNames
 pub mod XmpPieces

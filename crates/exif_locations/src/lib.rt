@@ -3,8 +3,11 @@
 #![tactic(auto)]
 
 pub mod iptc;
+mod iptc_numbers;
+mod text_names;
 pub mod texts;
 pub mod unread;
+pub mod words;
 pub mod xmp;
 
 pub use unread::Unread;

@@ -7,6 +7,7 @@
 mod erase;
 mod fault;
 pub mod laws;
+mod location_names;
 mod names;
 pub mod scan;
 mod step;

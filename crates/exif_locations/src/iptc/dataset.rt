@@ -4,6 +4,7 @@ ghost use Rattle.std.specs.Prelude.{◌≡◌, ◌<◌, ◌≤◌, length, slice
 ghost use Rattle.exif_locations.specs.IptcDatasets.{all_zero, dataset_at, is_location};
 
 use crate::iptc::fault::Fault;
+use crate::iptc_numbers::location_numbers;
 
 /// How many bytes the header of a dataset has.
 pub const HEADER_LEN: usize = 5;
@@ -19,14 +20,7 @@ pub struct Dataset {
 fn is_location(record_number: u8, number: u8) -> bool
     ensures { result ≡ is_location record_number number }
 {
-    record_number == 2
-        && (number == 26
-            || number == 27
-            || number == 90
-            || number == 92
-            || number == 95
-            || number == 100
-            || number == 101)
+    record_number == 2 && location_numbers().contains(&number)
 }
 
 /// Whether all bytes are zero.
