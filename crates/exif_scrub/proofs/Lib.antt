@@ -7,3 +7,4 @@ pub mod Stays
 pub mod HeifTwice
 pub mod TiffSteps
 pub mod TiffTwice
+pub mod JpegSteps

@@ -6,7 +6,7 @@ use Rattle.exif_base.specs.Orders.{number_of}
 use Rattle.exif_base.specs.declared.endian.Order.{Order}
 use Rattle.exif_scrub.specs.Directories.{chain_walked, child_walked, children_from, children_walked, children_named, directory_visited, entries_kept, next_of, one_more, tags_tested}
 use Rattle.exif_scrub.specs.Entries.{count_of, entry_kept, entry_named, item_at}
-use Rattle.exif_scrub.specs.Keeping.{◌>>=◌, kept_bytes, number_in}
+use Rattle.exif_scrub.specs.Keeping.{◌>>=◌, number_in, stretch_kept}
 use Rattle.exif_scrub.specs.Pictures.{strip_kept, strips_from}
 use Rattle.exif_scrub.specs.Tags.{describes_picture}
 use Rattle.exif_scrub.specs.declared.tiff.fault.Fault.{Fault}
@@ -55,17 +55,17 @@ tags_halt number old o left k e f is read = rw is (ap (λ (x : Result ℕ Fault)
 
 -- ---- strips
 
-pub strips_step : (number : Reading) (old : List ℕ) (offsets lengths left k index : ℕ) (new made : List ℕ)
-    → left ≡ suc k → strip_kept number old offsets lengths index new ≡ Ok made
-    → strips_from number old offsets lengths left index new ≡ strips_from number old offsets lengths k (index + 1) made
-strips_step number old offsets lengths left k index new made is put =
-    rw is (ap (λ (r : Result (List ℕ) Fault). r >>= strips_from number old offsets lengths k (index + 1)) put)
+pub strips_step : (number : Reading) (old : List ℕ) (str : Bool) (offsets lengths left k index : ℕ) (new made : List ℕ)
+    → left ≡ suc k → strip_kept number old str offsets lengths index new ≡ Ok made
+    → strips_from number old str offsets lengths left index new ≡ strips_from number old str offsets lengths k (index + 1) made
+strips_step number old str offsets lengths left k index new made is put =
+    rw is (ap (λ (r : Result (List ℕ) Fault). r >>= strips_from number old str offsets lengths k (index + 1)) put)
 
-pub strips_stop : (number : Reading) (old : List ℕ) (offsets lengths left k index : ℕ) (new : List ℕ) (f : Fault)
-    → left ≡ suc k → strip_kept number old offsets lengths index new ≡ Err f
-    → strips_from number old offsets lengths left index new ≡ Err f
-strips_stop number old offsets lengths left k index new f is put =
-    rw is (ap (λ (r : Result (List ℕ) Fault). r >>= strips_from number old offsets lengths k (index + 1)) put)
+pub strips_stop : (number : Reading) (old : List ℕ) (str : Bool) (offsets lengths left k index : ℕ) (new : List ℕ) (f : Fault)
+    → left ≡ suc k → strip_kept number old str offsets lengths index new ≡ Err f
+    → strips_from number old str offsets lengths left index new ≡ Err f
+strips_stop number old str offsets lengths left k index new f is put =
+    rw is (ap (λ (r : Result (List ℕ) Fault). r >>= strips_from number old str offsets lengths k (index + 1)) put)
 
 -- ---- directories below one
 
@@ -101,24 +101,24 @@ children_whole order old o p count e n new a b c =
 
 -- ---- a strip
 
-pub strip_is : (number : Reading) (old : List ℕ) (offsets lengths index at len : ℕ) (new : List ℕ) (r : Result (List ℕ) Fault)
-    → Ok at ≡ item_at number old offsets index → Ok len ≡ item_at number old lengths index → kept_bytes old at len at new ≡ r
-    → strip_kept number old offsets lengths index new ≡ r
-strip_is number old offsets lengths index at len new r a b put =
-    ap (λ (x : Result ℕ Fault). x >>= λ p. item_at number old lengths index >>= λ n. kept_bytes old p n p new) (sym a)
-    ∙ ap (λ (x : Result ℕ Fault). x >>= λ n. kept_bytes old at n at new) (sym b) ∙ put
+pub strip_is : (number : Reading) (old : List ℕ) (str : Bool) (offsets lengths index at len : ℕ) (new : List ℕ) (r : Result (List ℕ) Fault)
+    → Ok at ≡ item_at number old offsets index → Ok len ≡ item_at number old lengths index → stretch_kept str old at len new ≡ r
+    → strip_kept number old str offsets lengths index new ≡ r
+strip_is number old str offsets lengths index at len new r a b put =
+    ap (λ (x : Result ℕ Fault). x >>= λ p. item_at number old lengths index >>= λ n. stretch_kept str old p n new) (sym a)
+    ∙ ap (λ (x : Result ℕ Fault). x >>= λ n. stretch_kept str old at n new) (sym b) ∙ put
 
-pub strip_first : (number : Reading) (old : List ℕ) (offsets lengths index : ℕ) (new : List ℕ) (f : Fault)
-    → Err f ≡ item_at number old offsets index → strip_kept number old offsets lengths index new ≡ Err f
-strip_first number old offsets lengths index new f a =
-    ap (λ (x : Result ℕ Fault). x >>= λ p. item_at number old lengths index >>= λ n. kept_bytes old p n p new) (sym a)
+pub strip_first : (number : Reading) (old : List ℕ) (str : Bool) (offsets lengths index : ℕ) (new : List ℕ) (f : Fault)
+    → Err f ≡ item_at number old offsets index → strip_kept number old str offsets lengths index new ≡ Err f
+strip_first number old str offsets lengths index new f a =
+    ap (λ (x : Result ℕ Fault). x >>= λ p. item_at number old lengths index >>= λ n. stretch_kept str old p n new) (sym a)
 
-pub strip_second : (number : Reading) (old : List ℕ) (offsets lengths index at : ℕ) (new : List ℕ) (f : Fault)
+pub strip_second : (number : Reading) (old : List ℕ) (str : Bool) (offsets lengths index at : ℕ) (new : List ℕ) (f : Fault)
     → Ok at ≡ item_at number old offsets index → Err f ≡ item_at number old lengths index
-    → strip_kept number old offsets lengths index new ≡ Err f
-strip_second number old offsets lengths index at new f a b =
-    ap (λ (x : Result ℕ Fault). x >>= λ p. item_at number old lengths index >>= λ n. kept_bytes old p n p new) (sym a)
-    ∙ ap (λ (x : Result ℕ Fault). x >>= λ n. kept_bytes old at n at new) (sym b)
+    → strip_kept number old str offsets lengths index new ≡ Err f
+strip_second number old str offsets lengths index at new f a b =
+    ap (λ (x : Result ℕ Fault). x >>= λ p. item_at number old lengths index >>= λ n. stretch_kept str old p n new) (sym a)
+    ∙ ap (λ (x : Result ℕ Fault). x >>= λ n. stretch_kept str old at n new) (sym b)
 
 -- ---- entries by their tags
 

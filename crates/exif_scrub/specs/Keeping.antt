@@ -1,6 +1,7 @@
 -- Numbers of a file, and bytes of it that stay.
 use Rattle.std.specs.Prelude.{◌≡◌, ℕ, ◌+◌, Bool, List, ◌++◌, length, take, drop, nat_le, ◌&&◌, Result, Ok, Err, if◌then◌else◌}
 use Rattle.exif_base.specs.Bytes.{Reading, number_at}
+use Rattle.exif_scrub.specs.JpegStreams.{bared_if}
 use Rattle.exif_scrub.specs.declared.tiff.fault.Fault.{Fault}
 use Rattle.exif_scrub.specs.declared.tiff.fault.Fault.TheVariants.{Broken}
 
@@ -24,6 +25,14 @@ abbrev pub kept_bytes : List ℕ → ℕ → ℕ → ℕ → List ℕ → Result
 kept_bytes old from len to new =
     if is_within old from len && is_within new to len
     then Ok (take to new ++ (take len (drop from old) ++ drop (to + len) new)) else Err Broken
+
+-- the new file with so many bytes of the old one, where they were, without the metadata of the JPEG
+-- stream that they are, if the picture is stored in these
+abbrev pub stretch_kept : Bool → List ℕ → ℕ → ℕ → List ℕ → Result (List ℕ) Fault
+stretch_kept is_stream old at len new =
+    if is_within old at len && is_within new at len
+    then Ok (take at new ++ (bared_if is_stream (take len (drop at old)) ++ drop (at + len) new))
+    else Err Broken
 
 -- a call made the new file so, or was refused so
 abbrev pub Puts : {A : Type 0} → Result A Fault → List ℕ → Result (List ℕ) Fault → Type 0

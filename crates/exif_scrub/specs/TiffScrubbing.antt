@@ -56,7 +56,7 @@ is_settled keeps_orientation new =
     makes new (kept_once keeps_orientation new) && only_described keeps_orientation new
 
 -- whether a new file has the picture's data as they were: all bytes are, or the strips, tiles and
--- JPEG streams of the old one, put over it, change nothing
+-- JPEG streams of the old one, without metadata in such streams, put over it, change nothing
 abbrev pub keeps_picture : List ℕ → List ℕ → Bool
 keeps_picture old new = bytes_eq old new || makes new (file_walked Pictures old new)
 

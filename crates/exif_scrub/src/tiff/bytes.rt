@@ -2,9 +2,10 @@
 
 ghost use Rattle.std.specs.Prelude.{◌≡◌, ◌≤◌, ◌+◌, length, true};
 ghost use Rattle.exif_base.specs.Orders.{number_of};
-ghost use Rattle.exif_scrub.specs.Keeping.{Puts, is_within, kept_bytes, number_in};
+ghost use Rattle.exif_scrub.specs.Keeping.{Puts, is_within, kept_bytes, number_in, stretch_kept};
 
 use crate::tiff::fault::Fault;
+use crate::tiff::stream::put;
 use exif_base::{BigEndian, Endian, LittleEndian, Order};
 
 /// The file as it was, and the order of its numbers.
@@ -59,5 +60,24 @@ pub fn keep(old: &[u8], from: u64, len: u64, new: &mut [u8], to: u64) -> Result<
     }
     let (from, to, len) = (from as usize, to as usize, len as usize);
     new[to..to + len].copy_from_slice(&old[from..from + len]);
+    Ok(())
+}
+
+/// Puts so many bytes of the old file into the new one, where they were: without the metadata of
+/// the JPEG stream that they are, if the picture is stored in these.
+pub fn keep_stretch(
+    old: &[u8],
+    is_stream: bool,
+    at: u64,
+    len: u64,
+    new: &mut [u8],
+) -> Result<(), Fault>
+    ensures { Puts result new.new (stretch_kept is_stream old.now at len new.old) }
+{
+    if !is_within(old, at, len) || !is_within(new, at, len) {
+        return Err(Fault::Broken);
+    }
+    let (at, len) = (at as usize, len as usize);
+    put(is_stream, &old[at..at + len], &mut new[at..at + len]);
     Ok(())
 }

@@ -23,8 +23,9 @@ pub fn only_the_picture_is_left()
         → kept_once keeps_orientation new ≡ Ok new }
 {}
 
-/// The picture's data are the same: the strips, tiles and JPEG streams of the old file, put over
-/// the new one where they were, change nothing, or the new file is the old one.
+/// The picture's data are the same: the strips, tiles and JPEG streams of the old file, without the
+/// metadata in such streams, put over the new one where they were, change nothing, or the new file
+/// is the old one.
 pub fn the_picture_stays()
     ensures { (keeps_orientation : Bool) (file new : List ℕ)
         → scrubbed keeps_orientation file ≡ Ok new

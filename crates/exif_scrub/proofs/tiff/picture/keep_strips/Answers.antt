@@ -10,8 +10,8 @@ returns-in_err-item_at c =
     let l = c.loop-index in
     let p = err_from_is_err_and c.from_residual.result c.from_residual.ensures.1 in
     rw (p.1, p.2) (sym l.invariant
-    ∙ strips_stop (number_of a.old.order) a.old.bytes.now a.offsets a.lengths (a.count - l.index) (a.count - (l.index + 1)) l.index l.new c.in_err-item_at.field-0.0 (omega (arith, c.loop-index-test.true))
-    (strip_first (number_of a.old.order) a.old.bytes.now a.offsets a.lengths l.index l.new _ c.in_err-item_at.ensures))
+    ∙ strips_stop (number_of a.old.order) a.old.bytes.now a.is_stream a.offsets a.lengths (a.count - l.index) (a.count - (l.index + 1)) l.index l.new c.in_err-item_at.field-0.0 (omega (arith, c.loop-index-test.true))
+    (strip_first (number_of a.old.order) a.old.bytes.now a.is_stream a.offsets a.lengths l.index l.new _ c.in_err-item_at.ensures))
 
 pub returns-in_err-item_at-2 : goal.returns-in_err-item_at-2
 returns-in_err-item_at-2 c =
@@ -19,22 +19,22 @@ returns-in_err-item_at-2 c =
     let l = c.loop-index in
     let p = err_from_is_err_and c.from_residual-in_err-item_at-2.result c.from_residual-in_err-item_at-2.ensures.1 in
     rw (p.1, p.2) (sym l.invariant
-    ∙ strips_stop (number_of a.old.order) a.old.bytes.now a.offsets a.lengths (a.count - l.index) (a.count - (l.index + 1)) l.index l.new c.in_err-item_at-2.field-0.0 (omega (arith, c.loop-index-test.true))
-    (strip_second (number_of a.old.order) a.old.bytes.now a.offsets a.lengths l.index _ l.new _ c.in_ok-item_at.ensures c.in_err-item_at-2.ensures))
+    ∙ strips_stop (number_of a.old.order) a.old.bytes.now a.is_stream a.offsets a.lengths (a.count - l.index) (a.count - (l.index + 1)) l.index l.new c.in_err-item_at-2.field-0.0 (omega (arith, c.loop-index-test.true))
+    (strip_second (number_of a.old.order) a.old.bytes.now a.is_stream a.offsets a.lengths l.index _ l.new _ c.in_ok-item_at.ensures c.in_err-item_at-2.ensures))
 
-pub returns-in_err-keep : goal.returns-in_err-keep
-returns-in_err-keep c =
+pub returns-in_err-keep_stretch : goal.returns-in_err-keep_stretch
+returns-in_err-keep_stretch c =
     let a = c.args in
     let l = c.loop-index in
-    let p = err_from_is_err_and c.from_residual-in_err-keep.result c.from_residual-in_err-keep.ensures.1 in
+    let p = err_from_is_err_and c.from_residual-in_err-keep_stretch.result c.from_residual-in_err-keep_stretch.ensures.1 in
     rw (p.1, p.2) (sym l.invariant
-    ∙ strips_stop (number_of a.old.order) a.old.bytes.now a.offsets a.lengths (a.count - l.index) (a.count - (l.index + 1)) l.index l.new c.in_err-keep.field-0.0 (omega (arith, c.loop-index-test.true))
-    (strip_is (number_of a.old.order) a.old.bytes.now a.offsets a.lengths l.index _ _ l.new _ c.in_ok-item_at.ensures c.in_ok-item_at-2.ensures (search rules)))
+    ∙ strips_stop (number_of a.old.order) a.old.bytes.now a.is_stream a.offsets a.lengths (a.count - l.index) (a.count - (l.index + 1)) l.index l.new c.in_err-keep_stretch.field-0.0 (omega (arith, c.loop-index-test.true))
+    (strip_is (number_of a.old.order) a.old.bytes.now a.is_stream a.offsets a.lengths l.index _ _ l.new _ c.in_ok-item_at.ensures c.in_ok-item_at-2.ensures (search rules)))
 
 pub loop-index-preserved : goal.loop-index-preserved
 loop-index-preserved c =
     let a = c.args in
     let l = c.loop-index in
-    sym (strips_step (number_of a.old.order) a.old.bytes.now a.offsets a.lengths (a.count - l.index) (a.count - (l.index + 1)) l.index l.new c.keep.new.new (omega (arith, c.loop-index-test.true))
-    (strip_is (number_of a.old.order) a.old.bytes.now a.offsets a.lengths l.index _ _ l.new _ c.in_ok-item_at.ensures c.in_ok-item_at-2.ensures (search rules)))
+    sym (strips_step (number_of a.old.order) a.old.bytes.now a.is_stream a.offsets a.lengths (a.count - l.index) (a.count - (l.index + 1)) l.index l.new c.keep_stretch.new.new (omega (arith, c.loop-index-test.true))
+    (strip_is (number_of a.old.order) a.old.bytes.now a.is_stream a.offsets a.lengths l.index _ _ l.new _ c.in_ok-item_at.ensures c.in_ok-item_at-2.ensures (search rules)))
     ∙ l.invariant

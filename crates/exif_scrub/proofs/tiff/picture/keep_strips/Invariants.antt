@@ -6,5 +6,5 @@ use Rattle.exif_scrub.proofs.tiff.picture.keep_strips.Given as goal
 -- what the strips that are left make of the new file is what all make of it
 abbrev pub invariant-loop-index : goal.invariant-loop-index
 invariant-loop-index l =
-    strips_from (number_of l.old.order) l.old.bytes.now l.offsets l.lengths (l.count - l.index) l.index l.new
-    ≡ strips_from (number_of l.fn.old.order) l.fn.old.bytes.now l.fn.offsets l.fn.lengths l.fn.count 0 l.fn.new
+    strips_from (number_of l.old.order) l.old.bytes.now l.is_stream l.offsets l.lengths (l.count - l.index) l.index l.new
+    ≡ strips_from (number_of l.fn.old.order) l.fn.old.bytes.now l.fn.is_stream l.fn.offsets l.fn.lengths l.fn.count 0 l.fn.new
