@@ -8,3 +8,4 @@ pub mod HeifTwice
 pub mod TiffSteps
 pub mod TiffTwice
 pub mod JpegSteps
+pub mod JpegSame

@@ -1,9 +1,10 @@
 -- Worked examples: what of JPEG streams stays, by bytes written by hand.
-use Rattle.std.specs.Prelude.{◌≡◌, refl, [], ◌∷◌, ◌++◌, codes, replicate, false, List, ℕ, Ok}
+use Rattle.std.specs.Prelude.{◌≡◌, refl, [], ◌∷◌, ◌++◌, codes, replicate, false, List, ℕ, Ok, Err}
 use Rattle.exif_inventory.specs.JpegPieces.{stream_piece}
 use Rattle.exif_scrub.specs.Directories.{chain_walked}
 use Rattle.exif_scrub.specs.JpegStreams.{bared, bared_from}
 use Rattle.exif_scrub.specs.TiffScrubbing.{scrubbed}
+use Rattle.exif_scrub.specs.declared.tiff.fault.Fault.TheVariants.{SharedBytes}
 
 -- a comment becomes zeros, and so does what follows the image
 comment : bared (0xff ∷ 0xd8 ∷ 0xff ∷ 0xfe ∷ 0 ∷ 4 ∷ codes "hi" ++ 0xff ∷ 0xd9 ∷ 1 ∷ [])
@@ -82,3 +83,25 @@ scrubbed_strip = refl
 scrubbed_pixels : scrubbed false (strip 1 (codes "hi")) ≡ Ok (strip 1 (codes "hi"))
 unfolding chain_walked
 scrubbed_pixels = refl
+
+-- the tables that streams share
+abbrev tables : List ℕ → List ℕ
+tables text =
+    codes "MM\0*" ++ 0 ∷ 0 ∷ 0 ∷ 8 ∷ 0 ∷ 1 ∷ 1 ∷ 91 ∷ 0 ∷ 7 ∷ 0 ∷ 0 ∷ 0 ∷ 10 ∷ 0 ∷ 0 ∷ 0 ∷ 26
+    ∷ 0 ∷ 0 ∷ 0 ∷ 0 ∷ 0xff ∷ 0xd8 ∷ 0xff ∷ 0xfe ∷ 0 ∷ 4 ∷ text ++ 0xff ∷ 0xd9 ∷ []
+
+scrubbed_tables : scrubbed false (tables (codes "hi")) ≡ Ok (tables (0 ∷ 0 ∷ []))
+unfolding chain_walked bared_from stream_piece
+scrubbed_tables = refl
+
+-- a stream, and a strip behind its image, in the bytes that are said to be the stream's
+abbrev torn : List ℕ
+torn =
+    codes "MM\0*" ++ 0 ∷ 0 ∷ 0 ∷ 8 ∷ 0 ∷ 4 ∷ entry 1 17 72 ++ entry 1 23 1 ++ entry 2 1 62
+    ++ entry 2 2 11 ++ 0 ∷ 0 ∷ 0 ∷ 0 ∷ 0xff ∷ 0xd8 ∷ 0xff ∷ 0xfe ∷ 0 ∷ 4 ∷ codes "hi"
+    ++ 0xff ∷ 0xd9 ∷ 7 ∷ []
+
+-- are refused, since the strip would become zero
+scrubbed_torn : scrubbed false torn ≡ Err SharedBytes
+unfolding chain_walked bared_from stream_piece
+scrubbed_torn = refl

@@ -68,7 +68,7 @@ fn kept_once(
     }
 }
 
-// Whether all tags of a file describe the picture.
+// Whether all tags of a file describe the picture, and none of its JPEG streams has metadata.
 fn only_described(file: &[u8], keeps_orientation: bool) -> bool
     ensures { result ≡ only_described keeps_orientation file.now }
 {

@@ -1,8 +1,12 @@
 //! The JPEG streams of a picture without their metadata.
 
-ghost use Rattle.std.specs.Prelude.{◌≡◌, ◌<◌, ◌≤◌, ◌+◌, ◌-◌, ◌^◌, ◌++◌, length, min, take, drop, replicate};
+ghost use Rattle.std.specs.Prelude.{◌≡◌, ◌<◌, ◌≤◌, ◌+◌, ◌-◌, ◌^◌, ◌++◌, length, min, take, drop, replicate, ◌&&◌};
 ghost use Rattle.exif_scrub.specs.JpegStreams.{bared, bared_if, full_len, is_scanned, marker_kept, piece_kept, step_of};
+ghost use Rattle.std.specs.Str.{bytes_eq};
+ghost use Rattle.exif_scrub.specs.HeifBlanks.{all_are};
+ghost use Rattle.exif_scrub.specs.Keeping.{is_stretch};
 
+use crate::bytes::all_are;
 use exif_inventory::{Kind, State, fill_len, is_jpeg, stream_piece};
 
 /// What becomes of the bytes at the front of a stream.
@@ -130,5 +134,64 @@ pub fn put(is_stream: bool, bytes: &[u8], new: &mut [u8])
     new.copy_from_slice(bytes);
     if is_stream {
         bare(new);
+    }
+}
+
+// Whether one step is made at the front of bytes.
+fn is_made(step: Step, old: &[u8], new: &[u8]) -> bool
+    requires kept { step.kept ≤ step.len }
+    requires old { step.len ≤ length old.now }
+    requires new { step.len ≤ length new.now }
+    ensures { result ≡ (bytes_eq (take step.kept old.now) (take step.kept new.now)
+        && all_are 0 (take (step.len - step.kept) (drop step.kept new.now))) }
+{
+    old[..step.kept] == new[..step.kept] && all_are(0, &new[step.kept..step.len])
+}
+
+// The same from an offset on.
+fn is_made_at(step: Step, at: usize, old: &[u8], new: &[u8]) -> bool
+    requires kept { step.kept ≤ step.len }
+    requires old { at + step.len ≤ length old.now }
+    requires new { at + step.len ≤ length new.now }
+    ensures { result ≡ (bytes_eq (take step.kept (drop at old.now))
+        (take step.kept (drop at new.now))
+        && all_are 0 (take (step.len - step.kept) (drop step.kept (drop at new.now)))) }
+{
+    is_made(step, old.split_at(at).1, new.split_at(at).1)
+}
+
+// Whether bytes are others without the metadata of the JPEG stream that these may be.
+fn is_bared(old: &[u8], new: &[u8]) -> bool
+    requires { length new.now ≡ length old.now }
+    ensures { result ≡ bytes_eq (bared old.now) new.now }
+{
+    if !is_jpeg(old) {
+        return old == new;
+    }
+    if old[..2] != new[..2] {
+        return false;
+    }
+    let mut at = 2;
+    let mut scanned = false;
+    while at < old.len() {
+        let step = step_at(scanned, at, old);
+        if !is_made_at(step, at, old, new) {
+            return false;
+        }
+        scanned = step.scanned;
+        at += step.len;
+    }
+    true
+}
+
+/// Whether bytes are what stays of others, which are a JPEG stream, or not.
+pub fn is_stretch(is_stream: bool, old: &[u8], new: &[u8]) -> bool
+    requires { length new.now ≡ length old.now }
+    ensures { result ≡ is_stretch is_stream old.now new.now }
+{
+    if is_stream {
+        is_bared(old, new)
+    } else {
+        old == new
     }
 }
