@@ -1,7 +1,8 @@
 -- Which parts of a file hold a location.
-use Rattle.std.specs.Prelude.{ℕ, List, [], ◌∷◌, map, Bool, true, false, ◌&&◌, Option}
+use Rattle.std.specs.Prelude.{ℕ, List, [], ◌∷◌, length, map, Bool, true, false, ◌&&◌, Option, Some, if◌then◌else◌}
 use Rattle.std.specs.List.{list_all, list_any}
 use Rattle.std.specs.Option.{option_map}
+use Rattle.exif_inventory.specs.declared.kind.Kind.TheVariants.{Picture}
 use Rattle.exif_inventory.specs.declared.part.Part.{Part}
 use Rattle.exif_privacy.specs.Files.{parts_of}
 use Rattle.exif_privacy.specs.Judging.{judged}
@@ -9,6 +10,7 @@ use Rattle.exif_privacy.specs.declared.stays.Why.{Why}
 use Rattle.exif_privacy.specs.declared.stays.Why.TheVariants.{GpsVersion, InExif, StillThere}
 use Rattle.exif_data_locations.specs.declared.why.Why.TheVariants.{MakerNote}
 use Rattle.exif_locations.specs.declared.unread.Unread.TheVariants.{Keep}
+use Rattle.exif_scrub.specs.TiffScrubbing.{is_settled}
 use Rattle.exif_check.specs.declared.checked.Checked.{Checked}
 use Rattle.exif_check.specs.declared.checked.Location.{Location}
 use Rattle.exif_check.specs.declared.checked.Location.TheVariants.{Absent, Present, Unknown}
@@ -60,9 +62,27 @@ part_checked (part, whys) =
 abbrev pub parts_checked : List ℕ → List Part → List Checked
 parts_checked file parts = map part_checked (judged Keep file parts)
 
--- all parts of a file with theirs, if its format is known
+-- a TIFF file of so many bytes that is nothing but its picture
+abbrev pub picture_alone : ℕ → Checked
+picture_alone len = record {
+  part = record {
+    kind = Picture;
+    picture = 0;
+    offset = 0;
+    len = len;
+    data_offset = 0;
+    data_len = len;
+  };
+  location = Absent;
+  maker_note = false;
+}
+
+-- all parts of a file with theirs, if its format is known; a TIFF file is its picture alone if all
+-- of its tags describe that, and nothing else is in it
 abbrev pub checked : List ℕ → Option (List Checked)
-checked file = option_map (parts_checked file) (parts_of file)
+checked file =
+    if is_settled true file then Some (picture_alone (length file) ∷ [])
+    else option_map (parts_checked file) (parts_of file)
 
 -- the heaviest of all judgements, behind another one
 abbrev pub location_behind : Location → List Checked → Location

@@ -1,16 +1,17 @@
 //! The parts of a file, each with its judgement.
 
-ghost use Rattle.std.specs.Prelude.{◌≡◌, length, All, IfOk};
+ghost use Rattle.std.specs.Prelude.{◌≡◌, [], ◌∷◌, length, All, IfOk};
 ghost use Rattle.std.specs.Option.{option_map};
 ghost use Rattle.exif_inventory.specs.Promises.{EndsIn};
 ghost use Rattle.std.specs.List.{list_all, list_any};
 ghost use Rattle.exif_types.specs.Refusals.{Answers};
 ghost use Rattle.exif_check.specs.Answered.{checked_answer, without_parts};
-ghost use Rattle.exif_check.specs.Checking.{checked, is_maker_note, is_no_other, location_among, location_by, location_of, only_maker_note, parts_checked, weight, maker_note_at_most, only_maker_notes};
+ghost use Rattle.exif_check.specs.Checking.{checked, is_maker_note, is_no_other, location_among, location_by, location_of, only_maker_note, parts_checked, picture_alone, weight, maker_note_at_most, only_maker_notes};
 
 use exif_formats::{PictureFormat, format_of};
-use exif_inventory::Part;
+use exif_inventory::{Kind, Part};
 use exif_privacy::{Reasons, Unread, Why, parts_of};
+use exif_scrub::tiff::is_settled;
 use exif_types::Error;
 use std::alloc::{AllocError, Global};
 
@@ -114,8 +115,30 @@ fn check_parts(alloc: Global, file: &[u8], parts: &[Part]) -> Result<Vec<Checked
     Ok(all)
 }
 
+// A TIFF file of so many bytes that is nothing but its picture: one part.
+fn picture_alone(alloc: Global, len: usize) -> Result<Vec<Checked>, AllocError>
+    ensures { IfOk result (λ all. all.items ≡ picture_alone len ∷ []) }
+{
+    let mut all = Vec::new(alloc);
+    all.push(Checked {
+        part: Part {
+            kind: Kind::Picture,
+            picture: 0,
+            offset: 0,
+            len,
+            data_offset: 0,
+            data_len: len,
+        },
+        location: Location::Absent,
+        maker_note: false,
+    })?;
+    Ok(all)
+}
+
 /// The parts of a JPEG, WebP, HEIF, PNG, JPEG XL or TIFF file, in the order of their bytes, each
-/// with whether it holds a location: `None` for a file of another format. Together they are the whole file.
+/// with whether it holds a location: `None` for a file of another format. Together they are the
+/// whole file. A TIFF file is one part: its picture, where it is nothing else
+/// ([`is_settled`]), or Exif data.
 ///
 /// A part holds a location if erasing locations changes it, and so does each portion of an extended
 /// XMP packet that has one. GPS data that are a version alone are no location. A part may hold one if
@@ -128,6 +151,9 @@ fn check_parts(alloc: Global, file: &[u8], parts: &[Part]) -> Result<Vec<Checked
 pub fn check(alloc: Global, file: &[u8]) -> Result<Option<Vec<Checked>>, AllocError>
     ensures { IfOk result (λ found. option_map (λ v. v.items) found ≡ checked file.now) }
 {
+    if is_settled(alloc, file, true)? {
+        return Ok(Some(picture_alone(alloc, file.len())?));
+    }
     match parts_of(alloc, file)? {
         Some(parts) => Ok(Some(check_parts(alloc, file, parts.as_slice())?)),
         None => Ok(None),

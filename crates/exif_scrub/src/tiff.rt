@@ -2,7 +2,7 @@
 //!
 //! [`scrub`] keeps the directories with the tags that describe their pictures, the values of these
 //! tags, and the strips and tiles. Every other byte becomes zero, also in JPEG streams; none moves
-//! but entries, which close up.
+//! but entries, which close up. [`is_settled`] says whether a file is one that comes out so.
 
 mod bytes;
 mod directory;
@@ -16,4 +16,4 @@ mod stream;
 mod tags;
 
 pub use fault::Fault;
-pub use file::scrub;
+pub use file::{is_settled, scrub};

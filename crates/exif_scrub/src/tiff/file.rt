@@ -78,12 +78,17 @@ fn only_described(file: &[u8], keeps_orientation: bool) -> bool
     }
 }
 
-// Whether all of a file stays where it is scrubbed, and it has no other tags.
-fn is_settled(alloc: Global, new: &[u8], keeps_orientation: bool) -> Result<bool, AllocError>
-    ensures { IfOk result (λ it. it ≡ is_settled keeps_orientation new.now) }
+/// Whether a file is a TIFF file that is nothing but its picture, as [`scrub`] leaves one: all of it
+/// stays where it is scrubbed, and it has no other tags. With `keeps_orientation` it may have an
+/// orientation. It takes the memory of a new file, and none where there are other tags.
+pub fn is_settled(alloc: Global, file: &[u8], keeps_orientation: bool) -> Result<bool, AllocError>
+    ensures { IfOk result (λ it. it ≡ is_settled keeps_orientation file.now) }
 {
-    match kept_once(alloc, new, keeps_orientation)? {
-        Ok(again) => Ok(again.as_slice() == new && only_described(new, keeps_orientation)),
+    if !only_described(file, keeps_orientation) {
+        return Ok(false);
+    }
+    match kept_once(alloc, file, keeps_orientation)? {
+        Ok(again) => Ok(again.as_slice() == file),
         Err(_) => Ok(false),
     }
 }
