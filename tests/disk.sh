@@ -75,6 +75,19 @@ gives "a change that changes nothing" 0 "$mexaldor" set -i work/whole.jpg Orient
 check "does not replace the file" test "$(stat -c %Y work/whole.jpg)" = "$(date -d "2001-02-03 04:05:06" +%s)"
 nothing_beside links
 
+# what was removed stays in backups, and under other names
+fresh
+ln work/whole.jpg work/second.jpg
+gives "a file with another name is scrubbed" 0 "$mexaldor" scrub -i --backup work/whole.jpg
+says "its backup is named" "mexaldor: 1 backup (.orig) holds what was removed"
+says "and its other name" "mexaldor: 1 file has another name (a hard link), under which what was removed stays"
+check "which holds the old file" cmp files/whole.jpg work/second.jpg
+gives "a quiet run" 0 "$mexaldor" scrub -q -i work/second.jpg
+check "says neither" test ! -s err
+cp files/whole.jpg work/third.jpg
+gives "set says neither" 0 "$mexaldor" set -i --backup work/third.jpg Orientation=1
+check "since it removes nothing" test ! -s err
+
 # a name as long as names can be
 fresh
 long=$(printf %0250d 0).jpg

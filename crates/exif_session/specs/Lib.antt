@@ -1,6 +1,7 @@
 pub mod Answers
 pub mod Choosing
 pub mod Counting
+pub mod Elsewhere
 pub mod Flags
 pub mod InPlace
 pub mod NotChangedTexts

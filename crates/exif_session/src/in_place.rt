@@ -14,6 +14,7 @@ ghost use Rattle.exif_decisions.specs.declared.outcome.Outcome.TheVariants.{Refu
 
 use crate::change::ChangeEdit;
 use crate::change_out::change_input;
+use crate::elsewhere::{Elsewhere, elsewhere};
 use crate::notes::{NoteLine, said_notes};
 use crate::request::Change;
 use crate::session::{Item, Session, Stop};
@@ -28,6 +29,7 @@ use std::alloc::AllocError;
 use std::fmt::{self, Display};
 use std::fs;
 use std::io::{self, ErrorKind};
+use std::os::unix::fs::MetadataExt;
 use std::path::PathBuf;
 
 /// The files of a run, all found before the first is changed.
@@ -37,6 +39,8 @@ pub struct Plan {
     pub paths: Vec<String>,
     /// Where their links end.
     pub keys: Vec<String>,
+    /// How many of them have another name (a hard link), too.
+    pub linked: u64,
 }
 
 /// Changes each file that is named or found in place, once however often it is named, and counts
@@ -46,8 +50,13 @@ pub fn change_in_place<W: Sink, E: Sink>(
     change: &Change<'_>,
     keeping: Keeping,
 ) -> Result<(), Stop> {
-    let Plan { paths, keys } = Plan::gather(session)?;
+    let Plan {
+        paths,
+        keys,
+        linked,
+    } = Plan::gather(session)?;
     let rt = session.rt;
+    let before = session.pending.counts.done;
     let mut messages = Messages {
         paths: paths.as_slice(),
         keys: keys.as_slice(),
@@ -57,6 +66,23 @@ pub fn change_in_place<W: Sink, E: Sink>(
         counts: &mut session.pending.counts,
     };
     change_files(rt, change, keeping, keys.as_slice(), &mut messages)?;
+    let changed = session.pending.counts.done.saturating_sub(before);
+    say_elsewhere(session, &elsewhere(change, keeping, changed, linked))
+}
+
+// Says where what was removed still is, but in a quiet run.
+fn say_elsewhere<W: Sink, E: Sink>(
+    session: &mut Session<'_, '_, W, E>,
+    all: &[Elsewhere],
+) -> Result<(), Stop>
+    ensures { session.new.pending ≡ session.old.pending }
+{
+    for it in all {
+        if it.count() > 0 && !session.request.quiet {
+            let line = format!(in session.rt.alloc(); "mexaldor: {it}\n")?;
+            session.console.write(line.as_str());
+        }
+    }
     Ok(())
 }
 
@@ -87,6 +113,7 @@ impl Plan {
         let mut plan = Plan {
             paths: Vec::new(alloc),
             keys: Vec::new(alloc),
+            linked: 0,
         };
         for _ in 0..u64::MAX {
             match session.next_item()? {
@@ -111,6 +138,8 @@ impl Plan {
     {
         match key_of(session.rt, path.as_str()) {
             Ok(key) => {
+                let is_linked = has_other_name(session.rt, key.as_str());
+                self.linked = self.linked.saturating_add(u64::from(is_linked));
                 self.paths.push(path)?;
                 self.keys.push(key)?;
             }
@@ -170,6 +199,14 @@ pub fn key_of(rt: &HostRuntime, path: &str) -> io::Result<String> {
     if_regular(fs::metadata(rt, path)?.is_file())?;
     let path = fs::canonicalize(rt, path)?;
     Ok(String::from_str(rt.alloc(), path.as_path().as_str())?)
+}
+
+// Whether a file has another name, too.
+fn has_other_name(rt: &HostRuntime, key: &str) -> bool {
+    match fs::metadata(rt, key) {
+        Ok(found) => found.nlink() > 1,
+        Err(_) => false,
+    }
 }
 
 // Refuses what is no regular file.

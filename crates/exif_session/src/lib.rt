@@ -4,6 +4,7 @@
 
 mod change;
 mod change_out;
+mod elsewhere;
 mod flags;
 mod in_place;
 mod notes;
@@ -13,6 +14,7 @@ mod scrubbing;
 mod session;
 
 pub use change_out::change_into;
+pub use elsewhere::Elsewhere;
 pub use exif_files::Keeping;
 pub use flags::{UnknownDate, cells_by, date_tag_by, dates_by, form_by, separator_by};
 pub use in_place::{NotChanged, Plan, absolute_of, change_in_place, key_of, outcome_of};
