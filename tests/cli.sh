@@ -300,6 +300,8 @@ check "a file outside of the folder stays" cmp files/whole.jpg outside/far.jpg
 check "a backup stays" cmp files/whole.jpg work/links/a.jpg.orig
 check "a hidden file stays" cmp files/whole.jpg work/links/.mexaldor-0
 says "and is named" "work/links/.mexaldor-0: a temporary file of another run; it stays"
+gives "own files are no part of a check" 3 "$mexaldor" check -r work/links
+says "which says so" "mexaldor: 2 backups or temporary files were not checked"
 
 cp files/whole.jpg work/links/a.jpg
 gives "a file named in four ways is shifted once" 3 "$mexaldor" shift +1:00 work/links/a.jpg work/links/a.jpg ./work/../work/links/b.jpg -r work/links

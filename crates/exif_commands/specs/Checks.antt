@@ -1,5 +1,6 @@
 -- What is written and counted of a file whose parts were checked.
-use Rattle.std.specs.Prelude.{ℕ, Bool, true, false, List, ◌++◌, codes, Result, Ok, Err, Vec}
+use Rattle.std.specs.Prelude.{ℕ, ◌==◌, Bool, true, false, List, ◌++◌, codes, Result, Ok, Err, Vec, if◌then◌else◌}
+use Rattle.std.specs.Fmt.{decimal}
 use Rattle.std.specs.Global.{Global}
 use Rattle.json.specs.Print.{print}
 use Rattle.json.specs.Tree.{json_tokens}
@@ -60,3 +61,9 @@ checked_as answer = (answer.0.items, answer.1)
 abbrev pub outcome_checked : Result (Vec ℕ Global × Outcome) Failure → Outcome
 outcome_checked (Ok answer) = answer.1
 outcome_checked (Err e) = Refused
+
+-- how many files of the program's own were not checked
+abbrev pub unchecked_line : ℕ → List ℕ
+unchecked_line count =
+    if count == 1 then codes "mexaldor: 1 backup or temporary file was not checked\n" else
+    codes "mexaldor: " ++ (decimal count ++ codes " backups or temporary files were not checked\n")

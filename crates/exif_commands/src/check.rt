@@ -1,6 +1,6 @@
 //! What the parts of a file hold, as lines or as JSON.
 
-ghost use Rattle.std.specs.Prelude.{◌≡◌, ◌++◌, IfErr, IfOk, Err, None, codes};
+ghost use Rattle.std.specs.Prelude.{◌≡◌, ◌<◌, ◌++◌, IfErr, IfOk, OnOk, Err, None, codes, string_bytes};
 ghost use Rattle.json.specs.Print.{print};
 ghost use Rattle.json.specs.Tree.{json_tokens};
 ghost use Rattle.exif_check.specs.Json.{checked_json};
@@ -10,13 +10,16 @@ ghost use Rattle.exif_formats.specs.Formats.{format_in};
 ghost use Rattle.exif_json.specs.Answers.{IsJsonOf};
 ghost use Rattle.exif_types.specs.Refusals.{Answers};
 ghost use Rattle.exif_types.specs.declared.error.Error.TheVariants.{Io};
-ghost use Rattle.exif_commands.specs.Checks.{checked_as, checked_file, checked_with, outcome_by, outcome_checked};
+ghost use Rattle.exif_files.specs.declared.outcome.Status.TheVariants.{Incomplete};
+ghost use Rattle.exif_session.specs.Counting.{with_beside};
+ghost use Rattle.exif_commands.specs.Checks.{checked_as, checked_file, checked_with, outcome_by, outcome_checked, unchecked_line};
 
 use exif::{Error, Sink};
 use exif_check::{
     Checked, Location, check_json, check_picture, is_only_maker_notes, lines_of, location_of,
 };
 use exif_decisions::{Escaped, Outcome};
+use exif_files::Status;
 use exif_formats::format_of;
 use exif_inputs::read_file;
 use exif_json::json_of_answer;
@@ -180,4 +183,32 @@ fn refused_object(alloc: Global, path: &str, error: Error) -> Result<Vec<u8>, Al
     ensures { IfOk result (λ text. IsJsonOf path.now None (Err error.entry) text.items) }
 {
     json_of_answer(alloc, path.as_bytes(), None, Err(error))
+}
+
+// The line that says how many files of the program's own were not checked.
+fn unchecked_line(alloc: Global, count: u64) -> Result<String, AllocError>
+    ensures { IfOk result (λ text. string_bytes text ≡ unchecked_line count) }
+{
+    if count == 1 {
+        return format!(in alloc; "mexaldor: 1 backup or temporary file was not checked\n");
+    }
+    format!(in alloc; "mexaldor: {count} backups or temporary files were not checked\n")
+}
+
+/// Says how many backups and temporary files a check over folders has skipped, if there are some:
+/// they may hold a location, so the run is no success.
+pub fn report_unchecked<W: Sink, E: Sink>(session: &mut Session<'_, '_, W, E>) -> Result<(), Stop>
+    ensures none { session.old.pending.counts.own ≡ 0
+        → session.new.pending ≡ session.old.pending }
+    ensures some { 0 < session.old.pending.counts.own → OnOk result
+        (session.new.pending ≡ with_beside Incomplete session.old.pending) }
+{
+    let count = session.pending.counts.own;
+    if count == 0 {
+        return Ok(());
+    }
+    let line = unchecked_line(session.rt.alloc(), count)?;
+    session.console.write(line.as_str());
+    session.count_beside(Status::Incomplete);
+    Ok(())
 }

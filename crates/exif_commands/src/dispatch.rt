@@ -5,7 +5,7 @@ ghost use Rattle.exif_decisions.specs.declared.outcome.Outcome.TheVariants.{Unch
 ghost use Rattle.exif_session.specs.Statuses.{IsStatus};
 ghost use Rattle.exif_commands.specs.Tasks.{goes_through, is_done_elsewhere, makes_files};
 
-use crate::check::check_file;
+use crate::check::{check_file, report_unchecked};
 use crate::copying::copy_into_files;
 use crate::geotag::geotag_files;
 use crate::objects::{write_object, write_summary};
@@ -51,6 +51,10 @@ fn process_request<W: Sink, E: Sink>(session: &mut Session<'_, '_, W, E>) -> Res
         Task::Table(table) => {
             write_header(session, table)?;
             process_all(session)
+        }
+        Task::Check(..) => {
+            process_all(session)?;
+            report_unchecked(session)
         }
         _ => process_all(session),
     }
