@@ -1,25 +1,27 @@
 -- How much of its codestream a JPEG XL file has. A file in a container has it in a box `jxlc`, or
 -- in boxes `jxlp`, of which the last one is marked (ISO/IEC 18181-2, clause 9).
-use Rattle.std.specs.Prelude.{ℕ, zero, suc, nat_le, nat_lt, Bool, false, List, [], ◌∷◌, take, drop, length, codes, if◌then◌else◌}
+use Rattle.std.specs.Prelude.{ℕ, zero, suc, nat_le, nat_lt, Bool, false, List, [], ◌∷◌, take, drop, length, codes, Option, Some, None, if◌then◌else◌}
 use Rattle.std.specs.Str.{bytes_eq}
 use Rattle.exif_formats.specs.Jxl.{begins_codestream}
+use Rattle.exif_inventory.specs.BoxHeaders.{box_header}
+use Rattle.exif_inventory.specs.declared.boxes.BoxHeader.{BoxHeader}
 use Rattle.exif_inventory.specs.JxlPieces.{box_piece, is_cut_box}
 use Rattle.exif_pictures.specs.declared.codestream.Codestream.{Codestream}
 use Rattle.exif_pictures.specs.declared.codestream.Codestream.TheVariants.{Absent, CutOff, Whole}
-
--- the length of the header of a box: eight bytes more where its size is 1 (ISO/IEC
--- 14496-12:2015, 4.2)
-abbrev pub header_len : List ℕ → ℕ
-header_len box = if bytes_eq (take 4 box) (0 ∷ 0 ∷ 0 ∷ 1 ∷ []) then 16 else 8
 
 -- whether the first bit of data is set, as that of the last part of a codestream is
 abbrev pub is_marked : List ℕ → Bool
 is_marked [] = false
 is_marked (b ∷ bytes) = nat_le 128 b
 
+-- whether a part of a codestream is the last one, by the header of its box and the data behind it
+abbrev pub is_last : Option BoxHeader → List ℕ → Bool
+is_last None bytes = false
+is_last (Some header) bytes = is_marked (drop header.front bytes)
+
 -- a codestream behind a part of it
 abbrev pub with_part : List ℕ → Codestream
-with_part bytes = if is_marked (drop (header_len bytes) bytes) then Whole else CutOff
+with_part bytes = if is_last (box_header bytes) bytes then Whole else CutOff
 
 -- a codestream behind a box, if it has its type
 abbrev pub with_box : Codestream → List ℕ → Codestream

@@ -1,15 +1,14 @@
 //! How much of its codestream a JPEG XL file has.
 
 ghost use Rattle.std.specs.Prelude.{◌≡◌};
-ghost use Rattle.exif_pictures.specs.Codestreams.{boxed_codestream, codestream_of, cut_off, header_len, is_marked, with_box, with_part};
+ghost use Rattle.exif_pictures.specs.Codestreams.{boxed_codestream, codestream_of, cut_off, is_marked, with_box, with_part};
 
 use exif_formats::jxl::is_codestream;
+use exif_inventory::boxes::{box_header, name_of};
 use exif_inventory::{box_piece, is_cut_box};
 
 // The size and the type of a box.
 const HEADER_LEN: usize = 8;
-// Those of a box whose size has eight bytes.
-const LARGE_LEN: usize = 16;
 
 /// How much of its codestream a JPEG XL file has.
 #[derive(Clone, Copy)]
@@ -20,17 +19,6 @@ pub(crate) enum Codestream {
     CutOff,
     /// All of it.
     Whole,
-}
-
-// The length of the header of a box.
-fn header_len(bytes: &[u8]) -> usize
-    ensures { result ≡ header_len bytes.now }
-{
-    if bytes.starts_with(&[0, 0, 0, 1]) {
-        LARGE_LEN
-    } else {
-        HEADER_LEN
-    }
 }
 
 // Whether the first bit of data is set.
@@ -47,10 +35,9 @@ fn is_marked(data: &[u8]) -> bool
 fn with_part(bytes: &[u8]) -> Codestream
     ensures { result ≡ with_part bytes.now }
 {
-    if is_marked(&bytes[header_len(bytes).min(bytes.len())..]) {
-        Codestream::Whole
-    } else {
-        Codestream::CutOff
+    match box_header(bytes) {
+        Some(header) if is_marked(&bytes[header.front..]) => Codestream::Whole,
+        _ => Codestream::CutOff,
     }
 }
 
@@ -61,7 +48,7 @@ fn with_box(found: Codestream, bytes: &[u8]) -> Codestream
     if bytes.len() < HEADER_LEN {
         return found;
     }
-    match &bytes[4..][..4] {
+    match name_of(bytes) {
         b"jxlc" => Codestream::Whole,
         b"jxlp" => with_part(bytes),
         _ => found,
