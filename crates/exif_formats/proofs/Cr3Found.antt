@@ -10,7 +10,7 @@ use Rattle.exif_formats.specs.Cr3.{boxes_of, broken_cr3, held_front, held_in, he
 use Rattle.exif_formats.specs.Cr3Steps.{IsBehind, IsCut, IsFoundIn, IsFoundOf, IsFront, IsHeld, held_from}
 use Rattle.exif_formats.specs.declared.raw.cr3.walk.Held.{Held}
 use Rattle.exif_formats.proofs.Cr3Loop.{along_known}
-use Rattle.exif_formats.proofs.Cr3Walk.{fails-with, within-nil}
+use Rattle.exif_formats.proofs.Cr3Walk.{fails_with, within-nil}
 
 -- no boxes hold nothing
 held-nothing : (name usertype : List ℕ) → held_in name usertype [] ≡ Ok None
@@ -80,7 +80,7 @@ pub movie_cut : (e : Failure) (a b : Option (List ℕ)) (held : Held) → IsFoun
 movie_cut e None b held h k = tt
 movie_cut e (Some xs) None held h k = absurd h
 movie_cut e (Some xs) (Some ys) held h k =
-    fails-with e broken_cr3 (movie_of xs) _ k (λ p. ap required (h ∙ held-cut held.len ys p))
+    fails_with e broken_cr3 (movie_of xs) _ k (λ p. ap required (h ∙ held-cut held.len ys p))
 
 -- nothing but that is wrong with it
 from-either : (len : Option ℕ) (bytes : List ℕ) → IfErr (required (held_from len bytes)) (λ r. r ≡ broken_cr3)
@@ -121,7 +121,7 @@ pub front_cut : (name usertype : List ℕ) (most : ℕ) (e : Failure) (a b : Opt
 front_cut name usertype most e None b held h k = tt
 front_cut name usertype most e (Some xs) None held h k = absurd h
 front_cut name usertype most e (Some xs) (Some ys) held h k =
-    fails-with e broken_cr3 (held_front name usertype most xs) _ k
+    fails_with e broken_cr3 (held_front name usertype most xs) _ k
     (λ p. ap (λ r. r >>= λ found. Ok (option_map (take most) found)) (h ∙ held-cut held.len ys p))
 
 -- there is no such box

@@ -1,13 +1,12 @@
 -- The box whose header these bytes are, whatever follows them.
-use Rattle.std.proofs.Common.{◌≡◌, ℕ, ◌-◌, ◌<◌, ◌≤◌, Bool, true, false, cond, not, ◌&&◌, eqb, leb, ltb, List, [], ◌∷◌, ◌++◌, length, take, drop, get_or, Option, Some, None, Result, Ok, Err, MatchOption, refl, sym, ap, ◌∙◌, arith, length-append, length-drop}
+use Rattle.std.proofs.Common.{◌≡◌, ℕ, ◌-◌, ◌<◌, ◌≤◌, Bool, true, false, cond, not, ◌&&◌, eqb, leb, ltb, List, ◌++◌, length, take, drop, Option, Some, None, Result, Ok, Err, IfOk, IfErr, MatchOption, refl, sym, ap, ◌∙◌, arith, length-append, length-drop}
 use Rattle.std.proofs.lemmas.Bool.{eqb-true, ltb-false, ltb-true, le-ltb, lt-ltb, le-leb}
 use Rattle.std.proofs.lemmas.List.{take-append-le, drop-append-le, take_all, drop_all, drop_at}
 use Rattle.byteorder.specs.Endian.{big_number}
 use Rattle.byteorder.specs.Numbers.{big_from-append}
 use Rattle.exif_types.specs.Failures.{Failure}
-use Rattle.exif_types.specs.Refusals.{Refusal, refusal_of, Refuses, Takes, ◌>>=◌, Front}
+use Rattle.exif_types.specs.Refusals.{Refusal, refusal_of, Answers, ◌>>=◌, Front}
 use Rattle.exif_isobmff.specs.declared.kind.Kind.{Kind}
-use Rattle.exif_isobmff.specs.declared.splitter.Header.{Header}
 use Rattle.exif_isobmff.specs.HeifRefusals.{too_small, invalid_size}
 use Rattle.exif_isobmff.specs.Kinds.{kind_of}
 use Rattle.exif_isobmff.specs.Boxes.{bytes_at, sizes_itself, box_size, header_len, header_at}
@@ -15,6 +14,8 @@ use Rattle.exif_isobmff.proofs.SplitterBoxes.{eight, ok_same}
 use Rattle.exif_isobmff.proofs.LawsBoxes.{head_of, with_body, after_head, head-read, box-headed, box-cut}
 use Rattle.exif_formats.specs.Cr3.{Box, broken_cr3, box_read, first_box}
 use Rattle.exif_formats.specs.Cr3Steps.{box_behind}
+use Rattle.exif_formats.specs.Headers.{file_header}
+use Rattle.exif_formats.specs.declared.headers.FileHeader.{FileHeader}
 
 -- ---- a box by its header
 
@@ -127,64 +128,59 @@ headed_to_end head name e s n rest =
     size_by : List ℕ → ℕ → ℕ
     size_by text s = cond (eqb s 0) (length text) (cond (eqb s 1) (big_number 8 (drop 8 text)) s)
 
--- what a header that is read says
-fits : (head : List ℕ) (h : Header × List ℕ) → header_at head ≡ Ok h → (header_len head ≤ box_size head) × (box_size head - header_len head ≡ h.0.len)
-unfolding header_at
-fits head h e = by (ltb (box_size head) (header_len head)) refl e
-  where
-    len_of : Header × List ℕ → ℕ
-    len_of x = x.0.len
-
-    by : (t : Bool) → ltb (box_size head) (header_len head) ≡ t → cond t (Err invalid_size) (Ok (head_of head)) ≡ Ok h
-        → (header_len head ≤ box_size head) × (box_size head - header_len head ≡ h.0.len)
-    by true l e = absurd cc
-    by false l e = (ltb-false (box_size head) (header_len head) l, ap len_of (ok_same e))
-
 -- a header that says a size
-pub headed_sized : (head name after : List ℕ) (h : Header) → length head ≡ header_len head → sizes_itself head ≡ true → header_at head ≡ Ok (h, after) → take 4 (drop 4 head) ≡ name
-    → (rest : List ℕ) → first_box (head ++ rest) ≡ box_behind name (Some h.len) rest
-headed_sized head name after h e s r n rest =
+headed-sized : (head name : List ℕ) → length head ≡ header_len head → sizes_itself head ≡ true → header_len head ≤ box_size head → take 4 (drop 4 head) ≡ name
+    → (rest : List ℕ) → first_box (head ++ rest) ≡ box_behind name (Some (box_size head - header_len head)) rest
+headed-sized head name e s f n rest =
     let is = is_head head rest e in
-    let f = fits head (h, after) r in
-    let least = f.0 in
     let size : box_size (head ++ rest) ≡ box_size head = size-append head rest e (nonzero-of (leb 4 (length head)) (eqb (big_number 4 head) 0) s) in
     let len : header_len (head ++ rest) ≡ header_len head = is.len ∙ e in
-    headed (head ++ rest) name rest h.len is.whole (omega arith) (ap (λ n. n - header_len (head ++ rest)) size ∙ ap (λ n. box_size head - n) len ∙ f.1) is.behind (is.name ∙ n)
+    headed (head ++ rest) name rest (box_size head - header_len head) is.whole (omega arith) (ap (λ n. n - header_len (head ++ rest)) size ∙ ap (λ n. box_size head - n) len) is.behind (is.name ∙ n)
 
-refused-small : (head : List ℕ) (e : Failure) → Refuses e (header_at head) → box_size head < header_len head
-unfolding header_at
-refused-small head e h = by (ltb (box_size head) (header_len head)) refl (refusal_of e) h
-  where
-    by : (t : Bool) → ltb (box_size head) (header_len head) ≡ t → (o : Option Refusal)
-        → MatchOption o ⊥ (λ r. (let all : Front Header = cond t (Err invalid_size) (Ok (head_of head)) in all) ≡ Err r) → box_size head < header_len head
-    by true l o h = ltb-true (box_size head) (header_len head) l
-    by false l None h = absurd h
-    by false l (Some r) h = absurd cc
-
--- a header that is refused
-header-wrong : (head : List ℕ) (e : Failure) → length head ≡ header_len head → sizes_itself head ≡ true → Refuses e (header_at head)
+-- a header whose size is less than that of the header
+headed-wrong : (head : List ℕ) → length head ≡ header_len head → sizes_itself head ≡ true → box_size head < header_len head
     → (rest : List ℕ) → first_box (head ++ rest) ≡ Err broken_cr3
-header-wrong head e l s h rest =
+headed-wrong head l s small rest =
     let is = is_head head rest l in
-    let small = refused-small head e h in
     let size : box_size (head ++ rest) ≡ box_size head = size-append head rest l (nonzero-of (leb 4 (length head)) (eqb (big_number 4 head) 0) s) in
     let len = is.len in
     wrong (head ++ rest) is.whole (omega arith)
 
--- the same of a call's result
-pub headed_wrong : (head after : List ℕ) (r : Result Header Failure) → length head ≡ header_len head → sizes_itself head ≡ true → Takes (λ h. h) r after (header_at head)
-    → ((h : Header) → r ≡ Ok h → ⊥) → (rest : List ℕ) → first_box (head ++ rest) ≡ Err broken_cr3
-headed_wrong head after (Ok h) l s t n rest = absurd (n h refl)
-headed_wrong head after (Err e) l s t n rest = header-wrong head e l s t rest
+-- what a header says, by tests on its size
+abbrev by_tests : List ℕ → Bool → Bool → Result FileHeader Refusal
+by_tests head sizes small =
+    cond (sizes && small) (Err broken_cr3) (Ok (record { name = take 4 (drop 4 head); len = cond sizes (Some (box_size head - header_len head)) None }))
 
--- the four bytes from the fourth on
-pub four_at : (b : List ℕ) → 8 ≤ length b → take 4 (drop 4 b) ≡ get_or b 4 0 ∷ get_or b 5 0 ∷ get_or b 6 0 ∷ get_or b 7 0 ∷ []
-four_at [] h = absurd (omega arith)
-four_at (a ∷ []) h = absurd (omega arith)
-four_at (a ∷ b ∷ []) h = absurd (omega arith)
-four_at (a ∷ b ∷ c ∷ []) h = absurd (omega arith)
-four_at (a ∷ b ∷ c ∷ d ∷ []) h = absurd (omega arith)
-four_at (a ∷ b ∷ c ∷ d ∷ e ∷ []) h = absurd (omega arith)
-four_at (a ∷ b ∷ c ∷ d ∷ e ∷ f ∷ []) h = absurd (omega arith)
-four_at (a ∷ b ∷ c ∷ d ∷ e ∷ f ∷ g ∷ []) h = absurd (omega arith)
-four_at (a ∷ b ∷ c ∷ d ∷ e ∷ f ∷ g ∷ i ∷ t) h = refl
+header-is : (head : List ℕ) (h : FileHeader) → length head ≡ header_len head → file_header broken_cr3 head ≡ Ok h
+    → (rest : List ℕ) → first_box (head ++ rest) ≡ box_behind h.name h.len rest
+header-is head h l r rest = by (sizes_itself head) (ltb (box_size head) (header_len head)) refl refl r
+  where
+    by : (sizes small : Bool) → sizes_itself head ≡ sizes → ltb (box_size head) (header_len head) ≡ small → by_tests head sizes small ≡ Ok h
+        → first_box (head ++ rest) ≡ box_behind h.name h.len rest
+    by false small s t e = headed_to_end head (take 4 (drop 4 head)) l s refl rest ∙ ap (λ (h : FileHeader). box_behind h.name h.len rest) (ok_same e)
+    by true true s t e = absurd cc
+    by true false s t e =
+        headed-sized head (take 4 (drop 4 head)) l s (ltb-false (box_size head) (header_len head) t) refl rest ∙ ap (λ (h : FileHeader). box_behind h.name h.len rest) (ok_same e)
+
+-- the box behind a header that says it
+pub boxed_header : (head : List ℕ) (r : Result FileHeader Failure) → length head ≡ header_len head → Answers (λ h. h) r (file_header broken_cr3 head)
+    → IfOk r (λ h. (rest : List ℕ) → first_box (head ++ rest) ≡ box_behind h.name h.len rest)
+boxed_header head (Ok h) l e = header-is head h l e
+boxed_header head (Err e) l r = tt
+
+header-wrong : (head : List ℕ) (o : Option Refusal) → length head ≡ header_len head → MatchOption o ⊥ (λ r. file_header broken_cr3 head ≡ Err r)
+    → (o ≡ Some broken_cr3) × ((rest : List ℕ) → first_box (head ++ rest) ≡ Err broken_cr3)
+header-wrong head None l r = absurd r
+header-wrong head (Some d) l r = by (sizes_itself head) (ltb (box_size head) (header_len head)) refl refl r
+  where
+    by : (sizes small : Bool) → sizes_itself head ≡ sizes → ltb (box_size head) (header_len head) ≡ small → by_tests head sizes small ≡ Err d
+        → (Some d ≡ Some broken_cr3) × ((rest : List ℕ) → first_box (head ++ rest) ≡ Err broken_cr3)
+    by false small s t e = absurd cc
+    by true true s t e = (cc, headed-wrong head l s (ltb-true (box_size head) (header_len head) t))
+    by true false s t e = absurd cc
+
+-- the same of a header that is wrong
+pub wrong_header : (head : List ℕ) (r : Result FileHeader Failure) → length head ≡ header_len head → Answers (λ h. h) r (file_header broken_cr3 head)
+    → IfErr r (λ e. (refusal_of e ≡ Some broken_cr3) × ((rest : List ℕ) → first_box (head ++ rest) ≡ Err broken_cr3))
+wrong_header head (Ok h) l e = tt
+wrong_header head (Err e) l r = header-wrong head (refusal_of e) l r

@@ -7,10 +7,8 @@ use Rattle.std.proofs.Math.Seq.{drop-append-add, take-append-add}
 use Rattle.std.proofs.lemmas.Bool.{cases_lt, le-ltb, lt-ltb, ltb-true}
 use Rattle.std.proofs.lemmas.List.{drop_at, length-take-le, take_all, take_at, take-append-le}
 use Rattle.std.proofs.lemmas.Slice.Eq.{bytes_eq-Decides}
-use borrow.Rule.Slice.PartMut.{put_mid}
 use Rattle.std.specs.Io.KnownBytes.{Consumes, IsAtEnd}
 use Rattle.exif_base.specs.Told.{WhereTold, Skips}
-use Rattle.exif_base.proofs.ReadSteps.{consumes_append, take_filled}
 use Rattle.exif_types.specs.Failures.{Failure}
 use Rattle.exif_types.specs.Refusals.{Refusal, refusal_of, IsInterrupted, Fails}
 use Rattle.exif_isobmff.specs.Boxes.{header_len}
@@ -20,7 +18,7 @@ use Rattle.exif_formats.specs.Cr3.{broken_cr3, first_box, held_by, held_or, foll
 use Rattle.exif_formats.specs.Cr3Steps.{Comes, Goes, IsHeaded, IsTaken, Next, behind_type, box_behind, held_from, passing, type_len, typed, within}
 use Rattle.exif_formats.specs.declared.raw.cr3.walk.Coming.{Coming}
 use Rattle.exif_formats.specs.declared.raw.cr3.walk.Coming.TheVariants.{Sought, Other, End}
-use Rattle.exif_formats.specs.declared.raw.cr3.walk.FileHeader.{FileHeader}
+use Rattle.exif_formats.specs.declared.headers.FileHeader.{FileHeader}
 use Rattle.exif_formats.specs.declared.raw.cr3.walk.Held.{Held}
 use Rattle.exif_formats.specs.declared.raw.cr3.walk.Step.TheVariants as step
 use Rattle.exif_formats.proofs.Cr3Boxes.{within-more}
@@ -28,21 +26,10 @@ use Rattle.exif_formats.proofs.Cr3Headers.{first-cut}
 
 -- ---- headers
 
--- a header of 8 bytes and 8 more
-pub header_taken : (a b c : Option (List ℕ)) (n : ℕ) (first rest second : List ℕ) → n ≡ 8 → length first ≡ 8 → length second ≡ 8
-    → Consumes a b (take n first) → Consumes b c second → Consumes a c (take 16 (put_mid 8 8 (first ++ rest) second))
-header_taken a b c n first rest second e f s h k =
-    let long : 8 ≤ length (first ++ rest) = omega (arith, length-append first rest) in
-    let front : take 8 (first ++ rest) ≡ take n first = take-append-le 8 first rest (omega arith) ∙ ap (λ m. take m first) (sym e) in
-    let whole : take 8 second ≡ second = take_all 8 second (omega arith) in
-    let same : take 16 (put_mid 8 8 (first ++ rest) second) ≡ take n first ++ second =
-    take_filled 8 8 8 (first ++ rest) second long (omega arith) ∙ ap (λ t. t ++ take 8 second) front ∙ ap (λ t. take n first ++ t) whole in
-    subst (Consumes a c) (sym same) (consumes_append a b c (take n first) second h k)
-
 -- an error that is this refusal, or an interruption
-pub fails-with : {Y : Type 0} (e : Failure) (r : Refusal) (answer : Result Y Refusal) (P : Type 0) → MatchOption (refusal_of e) (IsInterrupted e) (λ s. (s ≡ r) × P) → (P → answer ≡ Err r)
+pub fails_with : {Y : Type 0} (e : Failure) (r : Refusal) (answer : Result Y Refusal) (P : Type 0) → MatchOption (refusal_of e) (IsInterrupted e) (λ s. (s ≡ r) × P) → (P → answer ≡ Err r)
     → Fails e answer
-fails-with {Y = Y} e r answer P h k = by (refusal_of e) h
+fails_with {Y = Y} e r answer P h k = by (refusal_of e) h
   where
     by : (o : Option Refusal) → MatchOption o (IsInterrupted e) (λ s. (s ≡ r) × P) → MatchOption o (IsInterrupted e) (λ s. answer ≡ Err s)
     by None h = h
@@ -316,7 +303,7 @@ pub box_refused : (name usertype : List ℕ) (e : Failure) (a : Option (List ℕ
     → IfSome a (λ xs. (n : ℕ) → Fails e (within name usertype (suc n) xs))
 box_refused name usertype e None h = tt
 box_refused name usertype e (Some xs) h = λ n.
-    fails-with e broken_cr3 (within name usertype (suc n) xs) _ h
+    fails_with e broken_cr3 (within name usertype (suc n) xs) _ h
     (λ p. within-more (held_by name usertype) n xs p.0 ∙ ap (λ r. follow (held_by name usertype) r (within name usertype n)) p.1)
 
 -- an interruption is an error of any answer
@@ -338,7 +325,7 @@ pub other_cut : (name usertype : List ℕ) (e : Failure) (a b : Option (List ℕ
 other_cut name usertype e None b held len k l s = tt
 other_cut name usertype e (Some xs) None held len k l s = absurd k
 other_cut name usertype e (Some xs) (Some ys) held len k l s = λ n.
-    fails-with e broken_cr3 (within name usertype (suc n) xs) _ s
+    fails_with e broken_cr3 (within name usertype (suc n) xs) _ s
     (λ p. k n ∙ ap (λ o. passing (within name usertype n) o ys) l
     ∙ ap (λ t. cond t (Err broken_cr3) (within name usertype n (drop len ys))) (lt-ltb (length ys) len p))
 

@@ -3,7 +3,7 @@ use Rattle.std.proofs.Common.{◌≡◌, ◌≢◌, inl, inr, subst, ℕ, suc, �
 use Rattle.std.specs.List.{flat_map}
 use Rattle.std.specs.Str.{bytes_eq}
 use Rattle.std.proofs.lemmas.Bool.{ne_eqb, lt-ltb, le-ltb}
-use Rattle.std.proofs.lemmas.List.{take_at, take_all, drop_at, take-append-drop, drop-drop}
+use Rattle.std.proofs.lemmas.List.{take_at, take_all, drop_all, drop_at, take-append-drop, drop-drop}
 use Rattle.std.proofs.lemmas.Slice.Eq.{bytes_eq-Decides}
 use Rattle.byteorder.specs.Endian.{big_number}
 use Rattle.byteorder.specs.Numbers.{big_from-append}
@@ -40,6 +40,7 @@ box-headed : (size name rest : List ℕ) → length size ≡ 4 → length name �
 box-headed size name rest sl nl =
     ap box_at (sym (append_assoc size name rest))
     ∙ header-behind (size ++ name) rest (omega (arith, length-append size name))
+    ∙ ap (λ t. headed_box (big_number 4 (size ++ name)) (take 4 (drop 4 (size ++ name))) (t ++ rest)) (drop_all 8 (size ++ name) (omega (arith, length-append size name)))
     ∙ ap (λ n. headed_box n (take 4 (drop 4 (size ++ name))) rest) (big_from-append 4 size name (omega arith))
     ∙ ap (λ t. headed_box (big_number 4 size) t rest) (ap (take 4) (drop_at size name 4 sl) ∙ take_all 4 name (omega arith))
 

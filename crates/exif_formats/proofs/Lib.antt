@@ -1,6 +1,8 @@
 pub mod DataGiven
+pub mod HeaderSteps
 pub mod HeldData
 pub mod Joined
+pub mod JxlHeaders
 pub mod Begins
 pub mod PictureLaws
 pub mod BoxSteps

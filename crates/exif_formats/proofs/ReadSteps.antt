@@ -1,5 +1,5 @@
 -- What reads at the front of a box say of it.
-use Rattle.std.proofs.Common.{◌≡◌, ℕ, ◌+◌, ◌-◌, ◌≤◌, Bool, true, false, cond, ltb, List, [], ◌∷◌, ◌++◌, length, take, drop, get_or, codes, Option, None, Some, Result, Ok, Err, IfSome, ap, sym, ◌∙◌, refl, subst, arith, length-drop, length-append}
+use Rattle.std.proofs.Common.{◌≡◌, ℕ, ◌+◌, ◌-◌, ◌≤◌, Bool, true, false, cond, ltb, List, [], ◌∷◌, ◌++◌, length, take, drop, codes, Option, None, Some, Result, Ok, Err, IfSome, ap, sym, ◌∙◌, refl, subst, arith, length-drop, length-append}
 use Rattle.std.specs.Str.{bytes_eq}
 use Rattle.std.specs.Io.KnownBytes.{Consumes}
 use Rattle.std.proofs.lemmas.Bool.{ne_eqb, le-ltb}
@@ -119,16 +119,9 @@ large-behind name buf ys l =
     ∙ ap (λ n. sized_box 16 n name (drop 8 (buf ++ ys))) (big_from-append 8 buf ys (omega arith))
     ∙ ap (λ t. sized_box 16 (big_number 8 buf) name t) (drop_at buf ys 8 l)
 
-pub large_read : (a b : Option (List ℕ)) (name buf : List ℕ) (size : ℕ) → length buf ≡ 8 → size ≡ big_number 8 buf → Consumes a b buf
-    → WhereTold a b (λ xs ys. large_box name xs ≡ sized_box 16 size name ys)
-large_read None b name buf size l e r = tt
-large_read (Some xs) None name buf size l e r = absurd r
-large_read (Some xs) (Some ys) name buf size l e r =
-    ap (large_box name) r ∙ large-behind name buf ys l ∙ ap (λ n. sized_box 16 n name ys) (sym e)
-
 -- ---- the header of a box
 
-pub header-behind : (buf ys : List ℕ) → length buf ≡ 8 → box_at (buf ++ ys) ≡ headed_box (big_number 4 buf) (take 4 (drop 4 buf)) ys
+pub header-behind : (buf ys : List ℕ) → 8 ≤ length buf → box_at (buf ++ ys) ≡ headed_box (big_number 4 buf) (take 4 (drop 4 buf)) (drop 8 buf ++ ys)
 header-behind buf ys l =
     let len = length-append buf ys in
     let all : List ℕ = buf ++ ys in
@@ -137,29 +130,7 @@ header-behind buf ys l =
     ∙ ap (λ n. headed_box n (take 4 (drop 4 all)) (drop 8 all)) (big_from-append 4 buf ys (omega arith))
     ∙ ap (λ t. headed_box (big_number 4 buf) (take 4 t) (drop 8 all)) (drop-append-le 4 buf ys (omega arith))
     ∙ ap (λ t. headed_box (big_number 4 buf) t (drop 8 all)) (take-append-le 4 (drop 4 buf) ys (omega (arith, length-drop 4 buf)))
-    ∙ ap (λ t. headed_box (big_number 4 buf) (take 4 (drop 4 buf)) t) (drop_at buf ys 8 l)
-
--- the four bytes behind the first four of eight
-pub four_behind : (buf : List ℕ) → length buf ≡ 8 → get_or buf 4 0 ∷ get_or buf 5 0 ∷ get_or buf 6 0 ∷ get_or buf 7 0 ∷ [] ≡ take 4 (drop 4 buf)
-four_behind (a ∷ b ∷ c ∷ d ∷ e ∷ f ∷ g ∷ h ∷ []) l = refl
-four_behind (a ∷ b ∷ c ∷ d ∷ e ∷ f ∷ g ∷ h ∷ i ∷ xs) l = absurd (omega arith)
-four_behind [] l = absurd (omega arith)
-four_behind (a ∷ []) l = absurd (omega arith)
-four_behind (a ∷ b ∷ []) l = absurd (omega arith)
-four_behind (a ∷ b ∷ c ∷ []) l = absurd (omega arith)
-four_behind (a ∷ b ∷ c ∷ d ∷ []) l = absurd (omega arith)
-four_behind (a ∷ b ∷ c ∷ d ∷ e ∷ []) l = absurd (omega arith)
-four_behind (a ∷ b ∷ c ∷ d ∷ e ∷ f ∷ []) l = absurd (omega arith)
-four_behind (a ∷ b ∷ c ∷ d ∷ e ∷ f ∷ g ∷ []) l = absurd (omega arith)
-
-pub header_read : (a b : Option (List ℕ)) (buf name : List ℕ) (n size : ℕ) → length buf ≡ 8 → 8 ≤ n → Consumes a b (take n buf) → size ≡ big_number 4 buf → name ≡ take 4 (drop 4 buf)
-    → WhereTold a b (λ xs ys. box_at xs ≡ headed_box size name ys)
-header_read None b buf name n size l whole r s e = tt
-header_read (Some xs) None buf name n size l whole r s e = absurd r
-header_read (Some xs) (Some ys) buf name n size l whole r s e =
-    let all : take n buf ≡ buf = take_all n buf (omega arith) in
-    ap box_at (r ∙ ap (λ t. t ++ ys) all) ∙ header-behind buf ys l
-    ∙ ap (λ k. headed_box k (take 4 (drop 4 buf)) ys) (sym s) ∙ ap (λ t. headed_box size t ys) (sym e)
+    ∙ ap (λ t. headed_box (big_number 4 buf) (take 4 (drop 4 buf)) t) (drop-append-le 8 buf ys l)
 
 -- ---- the signature of a file
 

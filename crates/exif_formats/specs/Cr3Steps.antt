@@ -5,11 +5,11 @@ use Rattle.std.specs.Str.{bytes_eq}
 use Rattle.exif_base.specs.Told.{WhereTold}
 use Rattle.exif_types.specs.Refusals.{Refusal}
 use Rattle.exif_formats.specs.Cr3.{Box, Cr3Parts, boxes_of, broken_cr3, first_box, first_within, held_by, held_in, held_of, held_or}
+use Rattle.exif_formats.specs.declared.headers.FileHeader.{FileHeader}
 use Rattle.exif_formats.specs.declared.raw.cr3.Parts.{Parts}
 use Rattle.exif_formats.specs.declared.raw.cr3.boxes.NamedBox.{NamedBox}
 use Rattle.exif_formats.specs.declared.raw.cr3.walk.Coming.{Coming}
 use Rattle.exif_formats.specs.declared.raw.cr3.walk.Coming.TheVariants as coming
-use Rattle.exif_formats.specs.declared.raw.cr3.walk.FileHeader.{FileHeader}
 use Rattle.exif_formats.specs.declared.raw.cr3.walk.Held.{Held}
 use Rattle.exif_formats.specs.declared.raw.cr3.walk.Step.{Step}
 use Rattle.exif_formats.specs.declared.raw.cr3.walk.Step.TheVariants as step

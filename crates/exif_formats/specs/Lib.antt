@@ -1,6 +1,7 @@
 mod Examples
 pub mod Failing
 pub mod Formats
+pub mod Headers
 pub mod Laws
 pub mod Magic
 pub mod Pictures

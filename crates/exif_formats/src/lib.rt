@@ -7,6 +7,7 @@
 
 mod cr3;
 mod format;
+mod headers;
 mod held;
 pub mod jxl;
 pub mod laws;

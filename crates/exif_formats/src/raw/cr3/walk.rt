@@ -1,8 +1,7 @@
 //! The first box of a type in a file. What comes before it is skipped.
 
-ghost use Rattle.std.specs.Prelude.{◌≡◌, ◌≢◌, ◌<◌, ◌≤◌, ◌-◌, ◌++◌, ℕ, suc, List, [], length, take, OnOk, IfOk, IfErr, IfSome, Ok, Err, Some};
+ghost use Rattle.std.specs.Prelude.{◌≡◌, ◌≢◌, ◌<◌, ◌≤◌, ◌-◌, ◌++◌, ℕ, suc, List, length, OnOk, IfOk, IfErr, IfSome, Ok, Err, Some};
 ghost use Rattle.std.specs.Option.{option_map};
-ghost use Rattle.std.specs.Io.KnownBytes.{Consumes};
 ghost use Rattle.exif_base.specs.Reads.{Counts};
 ghost use Rattle.exif_base.specs.Told.{WhereTold};
 ghost use Rattle.exif_types.specs.Refusals.{Fails, IsInterrupted, is_io, refusal_of};
@@ -14,22 +13,14 @@ ghost use Rattle.exif_formats.specs.Cr3Steps.{Comes, Goes, IsBehind, IsCut, IsFo
 
 use super::boxes::BROKEN;
 use super::{CR3, is_cr3};
+use crate::headers::{FileHeader, header_in, read_header};
 use exif_base::{BigEndian, Endian, Source, read_front};
-use exif_isobmff::{BoxSplitter, sizes_itself};
 use exif_segments::util::{collect, fill, read_all, read_at_most, skip};
 use exif_types::Error;
 use std::alloc::Global;
 
 // A file ends for this module after so many boxes.
 const MAX_BOXES: u64 = u64::MAX;
-
-/// The header of a box of a file: its type, and the length of its payload, which is absent where
-/// the box runs to the end of the file.
-#[derive(Clone, Copy)]
-pub struct FileHeader {
-    name: [u8; 4],
-    len: Option<u64>,
-}
 
 /// What a box holds: so many of the bytes that follow, or all of them.
 #[derive(Clone, Copy)]
@@ -59,51 +50,15 @@ pub enum Step {
     End,
 }
 
-// Reads the header of the next box into the buffer, and answers its length: 0 at the end.
-fn read_header<R: Source>(source: &mut R, buf: &mut [u8; 16]) -> Result<usize, Error>
-    ensures taken { IfOk result
-        (λ n. Consumes (R.left source.old) (R.left source.new) (take n buf.new)) }
-    ensures whole { IfOk result
-        (λ n. 0 < n → n ≡ header_len (take n buf.new)) }
-    ensures bound { IfOk result (λ n. n ≤ length buf.new) }
-    ensures end { IfOk result (λ n. n ≡ 0 → IfSome (R.left source.old) (λ xs. xs ≡ [])) }
-    ensures short { IfErr result (λ e. IsShort broken_cr3 e (R.left source.old)
-        (λ xs. (0 < length xs) × (length xs < header_len xs))) }
-    ensures no_memory { result ≢ Err OutOfMemory }
-    ensures counts { Counts R.Source source.old source.new (is_io result) }
-{
-    let n = read_front(source, &mut buf[..8])?;
-    if n == 0 {
-        return Ok(0);
-    }
-    if n < 8 {
-        return Err(Error::InvalidFormat(BROKEN));
-    }
-    if buf[..4] != [0, 0, 0, 1] {
-        return Ok(8);
-    }
-    fill(source, &mut buf[8..], BROKEN)?;
-    Ok(16)
-}
-
-// The header that these bytes are, whatever follows them. `header_of` of `exif_isobmff` is not
-// enough here: it answers none for a box up to the end of the file and for a size that is wrong.
-fn header_in(bytes: &[u8]) -> Result<FileHeader, Error>
+// The header that these bytes are, of a box of a CR3 file.
+fn boxed(bytes: &[u8]) -> Result<FileHeader, Error>
     requires { length bytes.now ≡ header_len bytes.now }
     ensures header { IfOk result (λ h. (rest : List ℕ)
         → first_box (bytes.now ++ rest) ≡ box_behind h.name h.len rest) }
     ensures refused { IfErr result (λ e. (refusal_of e ≡ Some broken_cr3)
         × ((rest : List ℕ) → first_box (bytes.now ++ rest) ≡ Err broken_cr3)) }
 {
-    let name = [bytes[4], bytes[5], bytes[6], bytes[7]];
-    if !sizes_itself(bytes) {
-        return Ok(FileHeader { name, len: None });
-    }
-    let Ok(header) = BoxSplitter::new(bytes).header() else {
-        return Err(Error::InvalidFormat(BROKEN));
-    };
-    let len = Some(header.len);
-    Ok(FileHeader { name, len })
+    header_in(bytes, BROKEN)
 }
 
 // The header of the next box, if there is one.
@@ -116,11 +71,11 @@ fn next_header<R: Source>(source: &mut R) -> Result<Option<FileHeader>, Error>
     ensures counts { Counts R.Source source.old source.new (is_io result) }
 {
     let mut buf = [0u8; 16];
-    let n = read_header(source, &mut buf)?;
+    let n = read_header(source, &mut buf, BROKEN)?;
     if n == 0 {
         return Ok(None);
     }
-    let header = header_in(&buf[..n])?;
+    let header = boxed(&buf[..n])?;
     Ok(Some(header))
 }
 

@@ -1,7 +1,7 @@
 use Rattle.std.proofs.Common.{rules}
 use borrow.Rule.Slice.PartMut.{post_of}
-use Rattle.exif_formats.proofs.Cr3Walk.{header_taken}
-use Rattle.exif_formats.proofs.raw.cr3.walk.read_header.Goals as goal
+use Rattle.exif_formats.proofs.HeaderSteps.{header_taken}
+use Rattle.exif_formats.proofs.headers.read_header.Goals as goal
 
 pub returns-clause-taken : goal.returns-clause-taken
 returns-clause-taken g c =
