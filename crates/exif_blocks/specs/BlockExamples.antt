@@ -15,15 +15,11 @@ use Rattle.exif_blocks.specs.PutBlocks.{with_profile, with_xmp}
 use Rattle.exif_blocks.specs.PutRefusals.{is_compressed, no_extension, no_profile_box}
 use Rattle.exif_blocks.specs.PutViews.{Packet, plain, compressed}
 use Rattle.exif_blocks.specs.WebpBlocks.{not_extended}
-use Rattle.exif_blocks.specs.Zlib.{adler32, stored}
+use Rattle.exif_blocks.specs.Zlib.{stored}
 use Rattle.exif_blocks.specs.declared.blocks.Block.TheVariants as block
 use Rattle.exif_blocks.specs.declared.blocks.Container.TheVariants.{Jpeg, WebP, JpegXl}
 
 -- ---- zlib
-
--- a checksum that is often told
-wikipedia : adler32 (codes "Wikipedia") ≡ 0x11E60398
-wikipedia = refl
 
 -- one byte: a header, the last block, its length twice, the byte, and the checksum
 letter : stored (codes "a")
