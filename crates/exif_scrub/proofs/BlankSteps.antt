@@ -4,7 +4,9 @@ use Rattle.std.proofs.lemmas.Bool.Decides.{nat_tests}
 use Rattle.std.proofs.lemmas.Grind.{common_steps}
 use Rattle.exif_scrub.specs.HeifBlanks.{blanked, cleared_from, free_front, freed, no_fields, no_properties, padded, renamed}
 use Rattle.exif_scrub.specs.declared.heif.blank.Blank.{Blank}
-use Rattle.exif_scrub.specs.declared.heif.blank.Blank.TheVariants.{Nothing, Fields, Packet, Zeros, Free}
+use Rattle.exif_scrub.specs.declared.heif.blank.Blank.TheVariants.{Nothing, Fields, Packet, Zeros, Free, Described}
+use Rattle.exif_scrub.specs.declared.steps.Place.TheVariants.{Box}
+use Rattle.exif_scrub.proofs.BareSteps.{bared_long}
 
 padded_if : (t : Bool) (text : List ℕ) (b : ℕ) (bytes : List ℕ) → (t ≡ true → length text ≤ length bytes)
     → length (cond t (text ++ replicate (length bytes - length text) b) (replicate (length bytes) b)) ≡ length bytes
@@ -43,3 +45,4 @@ blanked_long Fields bytes = padded_long no_fields 0 bytes
 blanked_long Packet bytes = padded_long no_properties 32 bytes
 blanked_long Zeros bytes = padded_long [] 0 bytes
 blanked_long Free bytes = freed_long (free_front bytes) bytes (front_least _)
+blanked_long Described bytes = bared_long (length bytes) Box bytes

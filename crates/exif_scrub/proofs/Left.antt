@@ -7,9 +7,9 @@ use Rattle.exif_inventory.specs.declared.part.Part.{Part}
 use Rattle.exif_inventory_heif.specs.Inventories.{heif_inventory, is_heif, judged_parts, layout_of}
 use Rattle.exif_inventory_heif.specs.Spans.{data_within, part_kind, part_of}
 use Rattle.exif_inventory_heif.specs.declared.role.Role.{Role}
-use Rattle.exif_inventory_heif.specs.declared.role.Role.TheVariants.{Known, Movie}
+use Rattle.exif_inventory_heif.specs.declared.role.Role.TheVariants.{ItemInfo, Known, Meta, Movie}
 use Rattle.exif_inventory_heif.specs.declared.span.Span.{Span}
-use Rattle.exif_scrub.specs.HeifBlanks.{blanked, role_blank, span_blank, unknown_box}
+use Rattle.exif_scrub.specs.HeifBlanks.{blanked, listed_box, role_blank, span_blank, unknown_box}
 use Rattle.exif_scrub.specs.HeifPromises.{AllKnown, IsBlank, IsKnown, empty_of}
 use Rattle.exif_scrub.specs.HeifScrubbing.{bytes_of, is_other, is_settled, left_of, left_parts, scrubbed, settled, stays}
 use Rattle.exif_scrub.specs.declared.heif.blank.Blank.{Blank}
@@ -36,6 +36,11 @@ shown_mixed : (judged is_item : Bool) (bytes : List ℕ) (role : Role) (Answered
 shown_mixed true is_item bytes role Answered k h c = inl k
 shown_mixed false is_item bytes role Answered k h c = inr (inr (c (ap is_other k)))
 
+shown_listed : (judged is_item : Bool) (bytes : List ℕ) (role : Role) (Answered : Type 0) → part_kind judged role ≡ (if judged then kind.Picture else kind.Unknown)
+    → Shown judged role is_item (listed_box judged) bytes Answered
+shown_listed true is_item bytes role Answered k h c = inl k
+shown_listed false is_item bytes role Answered k h c = inr (inr (c (ap is_other k)))
+
 shown : (judged : Bool) (role : Role) (span : Span) (bytes : List ℕ) (Answered : Type 0)
     → Shown judged role (data_within role span == span.from) (role_blank judged role span) bytes Answered
 shown judged (Known kind.Picture) span bytes Answered h c = inl refl
@@ -45,6 +50,8 @@ shown judged (Known kind.Unknown) span bytes Answered h c = shown_unknown (span.
 shown judged (Known kind.ContentCredentials) span bytes Answered h c = inr (inl (refl, h))
 shown judged (Known k) span bytes Answered h c = inr (inr (c refl))
 shown judged Movie span bytes Answered h c = inr (inr (c refl))
+shown judged Meta span bytes Answered h c = shown_listed judged (data_within Meta span == span.from) bytes Meta Answered refl h c
+shown judged ItemInfo span bytes Answered h c = shown_listed judged (data_within ItemInfo span == span.from) bytes ItemInfo Answered refl h c
 shown judged role span bytes Answered h c = shown_mixed judged (data_within role span == span.from) bytes role Answered refl h c
 
 -- ---- all parts

@@ -1,24 +1,28 @@
 -- The picture's bytes stay.
-use Rattle.std.proofs.Common.{◌≡◌, ℕ, Bool, List, length, Option, None, Some, Ok, refl, sym, ◌∙◌, ap, subst, arith}
+use Rattle.std.proofs.Common.{◌≡◌, ℕ, Bool, true, false, List, length, Option, None, Some, Ok, refl, sym, ◌∙◌, ap, subst, arith}
 use Rattle.std.proofs.lemmas.List.Elements.{All-weaker}
 use Rattle.exif_inventory.specs.declared.kind.Kind.TheVariants as kind
 use Rattle.exif_inventory.specs.declared.part.Part.{Part}
 use Rattle.exif_inventory_heif.specs.Inventories.{heif_layout}
 use Rattle.exif_inventory_heif.specs.Spans.{part_kind}
 use Rattle.exif_inventory_heif.specs.declared.role.Role.{Role}
-use Rattle.exif_inventory_heif.specs.declared.role.Role.TheVariants.{Known}
+use Rattle.exif_inventory_heif.specs.declared.role.Role.TheVariants.{ItemInfo, Known, Meta}
 use Rattle.exif_inventory_heif.specs.declared.span.Span.{Span}
 use Rattle.exif_scrub.specs.HeifBlanks.{blanked, role_blank}
-use Rattle.exif_scrub.specs.HeifPromises.{Becomes, KeepsPicture, PictureStays}
+use Rattle.exif_scrub.specs.HeifPromises.{Becomes, KeepsPicture, PictureStays, picture_bytes}
 use Rattle.exif_scrub.specs.HeifScrubbing.{bytes_of, emptied, emptied_by, if_emptied, scrubbed, settled, spans_emptied}
 use Rattle.exif_scrub.proofs.LayoutOrder.{heif_ordered}
 use Rattle.exif_scrub.proofs.SpanSteps.{each_becomes}
 use Rattle.exif_scrub.proofs.HeifTwice.{left_is, same_answer}
 
--- nothing becomes of the picture's bytes
+-- nothing else becomes of the picture's bytes
 picture_blank : (judged : Bool) (role : Role) (span : Span) (bytes : List ℕ) → part_kind judged role ≡ kind.Picture
-    → blanked (role_blank judged role span) bytes ≡ bytes
+    → blanked (role_blank judged role span) bytes ≡ picture_bytes role bytes
 unfolding blanked
+picture_blank true Meta span bytes k = refl
+picture_blank true ItemInfo span bytes k = refl
+picture_blank false Meta span bytes k = absurd (cc)
+picture_blank false ItemInfo span bytes k = absurd (cc)
 picture_blank judged (Known kind.Exif) span bytes k = absurd (cc)
 picture_blank judged (Known kind.Xmp) span bytes k = absurd (cc)
 picture_blank judged (Known kind.Unknown) span bytes k = absurd (cc)

@@ -4,10 +4,12 @@ use Rattle.std.specs.Prelude.{ℕ, ◌-◌, List, [], ◌∷◌, ◌++◌, lengt
 use Rattle.std.specs.Str.{bytes_eq}
 use Rattle.exif_inventory.specs.declared.kind.Kind.TheVariants as kind
 use Rattle.exif_inventory_heif.specs.declared.role.Role.{Role}
-use Rattle.exif_inventory_heif.specs.declared.role.Role.TheVariants.{Known}
+use Rattle.exif_inventory_heif.specs.declared.role.Role.TheVariants.{ItemInfo, Known, Meta}
 use Rattle.exif_inventory_heif.specs.declared.span.Span.{Span}
 use Rattle.exif_scrub.specs.declared.heif.blank.Blank.{Blank}
-use Rattle.exif_scrub.specs.declared.heif.blank.Blank.TheVariants.{Nothing, Fields, Packet, Zeros, Free}
+use Rattle.exif_scrub.specs.declared.heif.blank.Blank.TheVariants.{Nothing, Fields, Packet, Zeros, Free, Described}
+use Rattle.exif_scrub.specs.declared.steps.Place.TheVariants.{Box}
+use Rattle.exif_scrub.specs.Steps.{bared}
 
 -- an Exif item without fields: no bytes before the TIFF data, and these with an empty directory
 abbrev pub no_fields : List ℕ
@@ -45,6 +47,10 @@ freed front bytes =
 abbrev pub as_free : List ℕ → List ℕ
 as_free bytes = freed (free_front bytes) bytes
 
+-- a box that describes pictures, without what does not
+abbrev pub described : List ℕ → List ℕ
+described bytes = bared Box bytes
+
 -- bytes in place of these
 unfoldable pub blanked : Blank → List ℕ → List ℕ
 blanked Nothing bytes = bytes
@@ -52,6 +58,7 @@ blanked Fields bytes = padded no_fields 0 bytes
 blanked Packet bytes = padded no_properties 32 bytes
 blanked Zeros bytes = padded [] 0 bytes
 blanked Free bytes = as_free bytes
+blanked Described bytes = described bytes
 
 -- whether bytes are what comes in place of them
 abbrev pub is_blank : Blank → List ℕ → Bool
@@ -71,12 +78,19 @@ item_or_box span item box = if span.content == span.from then item else box
 abbrev pub unknown_box : Bool → Blank
 unknown_box judged = if judged then Free else Nothing
 
+-- what becomes of a box that describes pictures, or lists the items: where these are not
+-- understood, it stays
+abbrev pub listed_box : Bool → Blank
+listed_box judged = if judged then Described else Nothing
+
 -- what becomes of a span of this role
 abbrev pub role_blank : Bool → Role → Span → Blank
 role_blank judged (Known kind.Exif) span = Fields
 role_blank judged (Known kind.Xmp) span = item_or_box span Packet Free
 role_blank judged (Known kind.Unknown) span = item_or_box span Zeros (unknown_box judged)
 role_blank judged (Known kind.ContentCredentials) span = Free
+role_blank judged Meta span = listed_box judged
+role_blank judged ItemInfo span = listed_box judged
 role_blank judged role span = Nothing
 
 -- what becomes of a span

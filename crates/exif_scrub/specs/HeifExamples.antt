@@ -14,7 +14,8 @@ use Rattle.exif_inventory_heif.specs.Pieces.{child_piece, top_piece}
 use Rattle.exif_inventory_heif.specs.Walks.{walked}
 use Rattle.exif_scrub.specs.HeifBlanks.{blanked}
 use Rattle.exif_scrub.specs.HeifScrubbing.{scrubbed}
-use Rattle.exif_scrub.specs.declared.heif.blank.Blank.TheVariants.{Fields, Packet, Zeros, Free}
+use Rattle.exif_scrub.specs.Steps.{bared_from}
+use Rattle.exif_scrub.specs.declared.heif.blank.Blank.TheVariants.{Fields, Packet, Zeros, Free, Described}
 
 -- Exif data, with room for a directory without entries, and without
 fields : blanked Fields (replicate 20 7)
@@ -41,6 +42,47 @@ large : blanked Free (0 ∷ 0 ∷ 0 ∷ 1 ∷ codes "udta" ++ 0 ∷ 0 ∷ 0 ∷ 
     ≡ 0 ∷ 0 ∷ 0 ∷ 1 ∷ codes "free" ++ 0 ∷ 0 ∷ 0 ∷ 0 ∷ 0 ∷ 0 ∷ 0 ∷ 18 ∷ 0 ∷ 0 ∷ []
 unfolding blanked
 large = refl
+
+-- properties: a size with a byte behind its fields, and a description; the box behind them stays
+abbrev properties : ℕ → List ℕ → List ℕ
+properties more text =
+    0 ∷ 0 ∷ 0 ∷ 56 ∷ codes "iprp" ++ 0 ∷ 0 ∷ 0 ∷ 39 ∷ codes "ipco"
+    ++ 0 ∷ 0 ∷ 0 ∷ 21 ∷ codes "ispe" ++ 0 ∷ 0 ∷ 0 ∷ 0 ∷ 0 ∷ 0 ∷ 0 ∷ 2 ∷ 0 ∷ 0 ∷ 0 ∷ 3 ∷ more
+    ∷ 0 ∷ 0 ∷ 0 ∷ 10 ∷ codes "udes" ++ text ++ 0 ∷ 0 ∷ 0 ∷ 9 ∷ codes "ipma" ++ 7 ∷ []
+
+described_properties : blanked Described (properties 9 (5 ∷ 6 ∷ [])) ≡ properties 0 (0 ∷ 0 ∷ [])
+unfolding blanked bared_from head_of box_header
+described_properties = refl
+
+-- the handler, with a name
+abbrev handler : List ℕ → List ℕ
+handler name =
+    0 ∷ 0 ∷ 0 ∷ 35 ∷ codes "hdlr" ++ replicate 8 0 ++ codes "pict" ++ replicate 12 0 ++ name
+    ++ 0 ∷ []
+
+described_handler : blanked Described (handler (codes "Me")) ≡ handler (0 ∷ 0 ∷ [])
+unfolding blanked bared_from head_of box_header
+described_handler = refl
+
+-- the list of items, of which one has a name
+abbrev listed : List ℕ → List ℕ
+listed name =
+    0 ∷ 0 ∷ 0 ∷ 37 ∷ codes "iinf" ++ 0 ∷ 0 ∷ 0 ∷ 0 ∷ 0 ∷ 1 ∷ 0 ∷ 0 ∷ 0 ∷ 23 ∷ codes "infe"
+    ++ 2 ∷ 0 ∷ 0 ∷ 0 ∷ 0 ∷ 1 ∷ 0 ∷ 0 ∷ codes "hvc1" ++ name ++ 0 ∷ []
+
+described_items : blanked Described (listed (codes "Me")) ≡ listed (codes "  ")
+unfolding blanked bared_from head_of box_header
+described_items = refl
+
+-- groups, of which one is not known
+abbrev groups : List ℕ → List ℕ
+groups content =
+    0 ∷ 0 ∷ 0 ∷ 27 ∷ codes "grpl" ++ 0 ∷ 0 ∷ 0 ∷ 9 ∷ codes "altr" ++ 7 ∷ 0 ∷ 0 ∷ 0 ∷ 10
+    ∷ codes "abcd" ++ content
+
+described_groups : blanked Described (groups (5 ∷ 6 ∷ [])) ≡ groups (0 ∷ 0 ∷ [])
+unfolding blanked bared_from head_of box_header
+described_groups = refl
 
 -- the front of a file: 20 bytes
 abbrev brands : List ℕ
@@ -105,5 +147,5 @@ scrubbed_items : scrubbed (three_items (0 ∷ 0 ∷ 0 ∷ 0 ∷ replicate 16 7) 
           (32 ∷ 32 ∷ []) (0 ∷ 0 ∷ 0 ∷ 10 ∷ codes "free" ++ 0 ∷ 0 ∷ []),
       Some [],
     )
-unfolding layout_of walked top_piece child_piece head_of box_header number items_of items_in repeated type_kind extents_of is_known widths_of wide_entries entries_in entry_step entry_head extent_at carved carve_one cut_one item_span exif_content blanked
+unfolding layout_of walked top_piece child_piece head_of box_header number items_of items_in repeated type_kind extents_of is_known widths_of wide_entries entries_in entry_step entry_head extent_at carved carve_one cut_one item_span exif_content blanked bared_from
 scrubbed_items = refl

@@ -6,8 +6,10 @@ use Rattle.exif_inventory.specs.declared.kind.Kind.TheVariants as kind
 use Rattle.exif_inventory.specs.declared.part.Part.{Part}
 use Rattle.exif_inventory_heif.specs.Spans.{part_kind}
 use Rattle.exif_inventory_heif.specs.Walks.{AreSpans}
+use Rattle.exif_inventory_heif.specs.declared.role.Role.{Role}
+use Rattle.exif_inventory_heif.specs.declared.role.Role.TheVariants.{ItemInfo, Meta}
 use Rattle.exif_inventory_heif.specs.declared.span.Span.{Span}
-use Rattle.exif_scrub.specs.HeifBlanks.{blanked, span_blank}
+use Rattle.exif_scrub.specs.HeifBlanks.{blanked, described, span_blank}
 use Rattle.exif_scrub.specs.HeifScrubbing.{bytes_of, stays}
 use Rattle.exif_scrub.specs.declared.heif.blank.Blank.{Blank}
 use Rattle.exif_scrub.specs.declared.heif.blank.Blank.TheVariants.{Nothing, Fields, Packet, Zeros, Free}
@@ -55,10 +57,18 @@ abbrev pub AllKnown : List ℕ → List Part → Option (List Part) → Type 0
 AllKnown file left None = ⊥
 AllKnown file left (Some parts) = All (IsKnown file left) parts
 
--- a span of the picture has the same bytes
+-- the bytes of a span of the picture: of boxes that describe it, or list the items, without what
+-- does not
+abbrev pub picture_bytes : Role → List ℕ → List ℕ
+picture_bytes Meta bytes = described bytes
+picture_bytes ItemInfo bytes = described bytes
+picture_bytes role bytes = bytes
+
+-- a span of the picture has these bytes
 abbrev pub KeepsPicture : Bool → List ℕ → List ℕ → Span → Type 0
 KeepsPicture judged old new span =
-    part_kind judged span.role ≡ kind.Picture → bytes_of span new ≡ bytes_of span old
+    part_kind judged span.role ≡ kind.Picture
+    → bytes_of span new ≡ picture_bytes span.role (bytes_of span old)
 
 -- so all spans of a file; one of another format stays as it is
 abbrev pub PictureStays : List ℕ → List ℕ → Option (List Span × Bool) → Type 0

@@ -2,7 +2,8 @@
 use Rattle.std.specs.Prelude.{◌≡◌, ℕ, ◌+◌, Bool, List, ◌++◌, length, take, drop, nat_le, ◌&&◌, Result, Ok, Err, if◌then◌else◌}
 use Rattle.std.specs.Str.{bytes_eq}
 use Rattle.exif_base.specs.Bytes.{Reading, number_at}
-use Rattle.exif_scrub.specs.JpegStreams.{bared_if}
+use Rattle.exif_scrub.specs.Steps.{bared}
+use Rattle.exif_scrub.specs.declared.steps.Place.TheVariants.{Start}
 use Rattle.exif_scrub.specs.declared.tiff.fault.Fault.{Fault}
 use Rattle.exif_scrub.specs.declared.tiff.fault.Fault.TheVariants.{Broken, SharedBytes}
 use Rattle.exif_scrub.specs.declared.tiff.pass.Handling.{Handling}
@@ -28,6 +29,10 @@ abbrev pub kept_bytes : List ℕ → ℕ → ℕ → ℕ → List ℕ → Result
 kept_bytes old from len to new =
     if is_within old from len && is_within new to len
     then Ok (take to new ++ (take len (drop from old) ++ drop (to + len) new)) else Err Broken
+
+-- bytes without the metadata of the JPEG stream that they may be, if the picture is stored in these
+abbrev pub bared_if : Bool → List ℕ → List ℕ
+bared_if is_stream bytes = if is_stream then bared Start bytes else bytes
 
 -- the new file with so many bytes of the old one, where they were, without the metadata of the JPEG
 -- stream that they are, if the picture is stored in these

@@ -3,6 +3,8 @@ pub mod HeifScrubbing
 pub mod HeifPromises
 pub mod HeifExamples
 pub mod Tags
+pub mod Steps
+pub mod HeifSteps
 pub mod JpegStreams
 pub mod Keeping
 pub mod Entries

@@ -2,9 +2,10 @@
 
 ghost use Rattle.std.specs.Prelude.{◌≡◌, ◌<◌, ◌≤◌, ◌-◌, length, replicate};
 ghost use Rattle.std.specs.Str.{bytes_eq};
-ghost use Rattle.exif_scrub.specs.HeifBlanks.{all_are, as_free, blanked, cleared_from, free_front, freed, is_blank, item_or_box, no_fields, no_properties, padded, renamed, role_blank, span_blank, unknown_box};
+ghost use Rattle.exif_scrub.specs.HeifBlanks.{all_are, as_free, blanked, cleared_from, described, free_front, freed, is_blank, item_or_box, listed_box, no_fields, no_properties, padded, renamed, role_blank, span_blank, unknown_box};
 
 use crate::bytes::all_are;
+use crate::steps::{Place, bare, is_bared};
 use exif_inventory::Kind;
 use exif_inventory_heif::{Role, Span};
 
@@ -21,6 +22,8 @@ pub enum Blank {
     Zeros,
     /// A box: free space.
     Free,
+    /// A box that describes pictures, or lists the items: itself, without what does not.
+    Described,
 }
 
 // Exif data without fields: no bytes before the TIFF data, and these with an empty directory.
@@ -92,6 +95,7 @@ pub fn overwrite(how: Blank, bytes: &mut [u8])
             let front = free_front(bytes);
             make_free(front, bytes);
         }
+        Blank::Described => bare(Place::Box, bytes),
     }
 }
 
@@ -125,6 +129,7 @@ pub fn is_blank(how: Blank, bytes: &[u8]) -> bool
         Blank::Packet => is_padded(NO_PROPERTIES, b' ', bytes),
         Blank::Zeros => is_padded(b"", 0, bytes),
         Blank::Free => is_freed(free_front(bytes), bytes),
+        Blank::Described => is_bared(Place::Box, bytes, bytes),
     }
 }
 
@@ -147,6 +152,18 @@ fn unknown_box(judged: bool) -> Blank
     if judged { Blank::Free } else { Blank::Nothing }
 }
 
+// What becomes of a box that describes pictures, or lists the items: where these are not understood,
+// it stays.
+fn listed_box(judged: bool) -> Blank
+    ensures { result ≡ listed_box judged }
+{
+    if judged {
+        Blank::Described
+    } else {
+        Blank::Nothing
+    }
+}
+
 /// What becomes of a span, where the items are or are not understood.
 pub fn span_blank(judged: bool, span: Span) -> Blank
     ensures { result ≡ span_blank judged span }
@@ -156,6 +173,7 @@ pub fn span_blank(judged: bool, span: Span) -> Blank
         Role::Known(Kind::Xmp) => item_or_box(span, Blank::Packet, Blank::Free),
         Role::Known(Kind::Unknown) => item_or_box(span, Blank::Zeros, unknown_box(judged)),
         Role::Known(Kind::ContentCredentials) => Blank::Free,
+        Role::Meta | Role::ItemInfo => listed_box(judged),
         _ => Blank::Nothing,
     }
 }

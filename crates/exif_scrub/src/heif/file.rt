@@ -44,7 +44,11 @@ pub fn empty(alloc: Global, file: &mut [u8]) -> Result<bool, AllocError>
 ///
 /// The data of Exif and XMP items become empty data of their kind, those of items that are not
 /// known zeros. Boxes with an XMP packet or content credentials, and boxes that are not known,
-/// become free space of the same size. No byte moves, and of all other parts none changes: tracks
+/// become free space of the same size. The names of the handler and of items become zeros and
+/// spaces. Of properties those stay that describe a picture, with their fields, and of groups of
+/// items those that show alternatives or two eyes; the contents of the others become zeros.
+///
+/// No byte moves, and of all other parts none changes: tracks
 /// (`moov`), what is cut off, and, where the items are not understood, boxes that are not known and
 /// those with the items' data stay, and are answered. Bytes of the latter that no item has are the
 /// picture's otherwise, and stay.

@@ -25,7 +25,8 @@ pub fn what_is_left_is_answered()
 {}
 
 /// The new file is as long as the old one, and each part of the old one that is the picture's has
-/// its bytes, where they were.
+/// its bytes, where they were: but for what boxes hold beside that, which describe pictures or list
+/// the items.
 pub fn the_picture_stays()
     ensures length { (file new : List ℕ) (left : Option (List Part))
         → scrubbed file ≡ Ok (new, left) → length new ≡ length file }

@@ -1,12 +1,12 @@
 use Rattle.std.proofs.Common.{◌≡◌, ◌≤◌, ◌-◌, ◌++◌, length, take, drop}
-use Rattle.exif_scrub.specs.JpegStreams.{bared, bared_from}
-use Rattle.exif_scrub.proofs.tiff.stream.bare.Given as goal
+use Rattle.exif_scrub.specs.Steps.{bared, bared_from}
+use Rattle.exif_scrub.proofs.steps.bare.Given as goal
 
 -- the bytes so far, and what becomes of those that are left, are what becomes of all
 abbrev pub invariant-loop-at : goal.invariant-loop-at
 invariant-loop-at l = record {
-  made : take l.at l.bytes ++ bared_from (length (drop l.at l.bytes)) l.scanned (drop l.at l.bytes)
-      ≡ bared l.fn.bytes;
+  made : take l.at l.bytes ++ bared_from (length (drop l.at l.bytes)) l.next (drop l.at l.bytes)
+      ≡ bared l.fn.place l.fn.bytes;
   within : l.at ≤ length l.bytes;
   long : length l.bytes ≡ length l.fn.bytes;
 }
