@@ -1,5 +1,5 @@
 -- The steps of erasing.
-use Rattle.std.proofs.Common.{◌≡◌, ◌<◌, ◌+◌, ◌-◌, ℕ, List, [], ◌∷◌, ◌++◌, map, append_assoc, refl, sym, ap, ◌∙◌, Ok, Err}
+use Rattle.std.proofs.Common.{◌≡◌, ◌<◌, ◌+◌, ◌-◌, ℕ, Bool, true, false, List, Result, [], ◌∷◌, ◌++◌, map, append_assoc, refl, sym, ap, ◌∙◌, Ok, Err}
 use Rattle.std.specs.List.{flat_map}
 use Rattle.exif_base.specs.Bytes.{Reading, spaced}
 use Rattle.exif_base.specs.Orders.{number_of, order_named}
@@ -7,14 +7,16 @@ use Rattle.exif_base.specs.declared.endian.Order.{Order}
 use Rattle.exif_types.specs.declared.field.Field.{Field}
 use Rattle.exif_tiff.specs.declared.stop.Stop.{Stop}
 use Rattle.exif_tiff.specs.declared.stop.Stop.TheVariants as stop
-use Rattle.exif_edit_base.specs.Causes.{Becomes, Fails}
-use Rattle.exif_edit_base.specs.Patches.{zeros_over}
+use Rattle.exif_edit_base.specs.Causes.{Becomes, Cause, Fails, ◌>>=◌}
+use Rattle.exif_edit_base.specs.Patches.{patched, zeros_over}
+use Rattle.exif_edit_base.specs.Plans.{carried_out, planned}
+use Rattle.exif_edit_base.specs.declared.plan.Plan.{Plan}
 use Rattle.exif_edit_base.specs.GpsOffsets.{gps_offsets}
 use Rattle.exif_edit_base.specs.Readings.{Read, ReadsTo, reading}
 use Rattle.exif_edit_base.specs.declared.error.Error.{Error}
 use Rattle.exif_edit_base.specs.declared.patch.Patch.{Patch}
 use Rattle.exif_edit_base.specs.declared.patch.Span.{Span}
-use Rattle.exif_edit.specs.Erasing.{cleared, directory_spans, erase_patches, gps_spans, kept, without_gps}
+use Rattle.exif_edit.specs.Erasing.{cleared, directory_spans, erase_answer, erase_patches, gps_spans, kept, without_gps, zeros_planned}
 use Rattle.exif_tiff.proofs.ParserRuns.{spaced_step}
 
 -- one of the entries that are left
@@ -72,3 +74,18 @@ erase_wanted bytes ps read fs h p f =
     ap (λ x. cleared (record { little = read.little; fields = x; faults = read.faults }) bytes ps)
     f
     ∙ (ap (λ x. cleared (kept read) bytes x) p ∙ sym (erase_cleared bytes read h))
+
+-- a plan whose answer is so is that of the edit
+pub zeros_answer : (bytes : List ℕ) (ps : List Patch) (b : Bool) (read : Read)
+    (answer : Result (List Patch) Cause) → reading bytes ≡ Ok read
+    → ps ≡ map zeros_over (gps_spans (number_of (order_named read.little)) bytes)
+    → (b ≡ true → erase_patches bytes ≡ Ok ps) → answer ≡ zeros_planned b read bytes ps
+    → answer ≡ erase_patches bytes
+zeros_answer bytes ps true read answer h z alone e = e ∙ sym (alone refl)
+zeros_answer bytes ps false read answer h z alone e =
+    e ∙ erase_wanted bytes ps read (without_gps read.fields) h z refl
+
+-- the data with its patches are those of the edit then
+pub zeros_carried : (bytes : List ℕ) (plan : Plan) → planned bytes plan ≡ erase_patches bytes
+    → carried_out bytes plan ≡ erase_answer bytes
+zeros_carried bytes plan e = ap (λ x. x >>= λ patches. Ok (patched patches bytes)) e

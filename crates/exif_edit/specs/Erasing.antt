@@ -1,20 +1,18 @@
 -- Offsets erased: GPS directories and their values become zero bytes.
-use Rattle.std.specs.Prelude.{ℕ, ◌+◌, ◌-◌, ◌*◌, ◌==◌, ◌&&◌, nat_le, min, Bool, true, false, not, List, ◌∷◌, length, map, Result, Ok, Err, if◌then◌else◌}
-use Rattle.std.specs.Bool.{beq}
+use Rattle.std.specs.Prelude.{ℕ, ◌+◌, ◌-◌, ◌*◌, ◌==◌, nat_le, min, Bool, true, false, not, List, ◌∷◌, length, map, Result, Ok, Err, if◌then◌else◌}
 use Rattle.std.specs.List.{flat_map, filter}
-use Rattle.std.specs.Cmp.Lexicographic.{pointwise}
 use Rattle.exif_base.specs.Bytes.{Reading, number_at}
 use Rattle.exif_base.specs.Orders.{number_of, order_named}
 use Rattle.exif_table.specs.declared.context.Context.{Context}
 use Rattle.exif_table.specs.declared.context.Context.TheVariants.{Tiff, Exif, Gps, Interop}
 use Rattle.exif_text.specs.FieldTypes.{type_of, known_length}
-use Rattle.exif_types.specs.FieldEq.{field_eq}
 use Rattle.exif_types.specs.declared.field.Field.{Field}
 use Rattle.exif_tiff.specs.Trace.{whole_entries, entry_offsets}
 use Rattle.exif_edit_base.specs.Causes.{Cause, of_data, shared, ◌>>=◌}
 use Rattle.exif_edit_base.specs.GpsOffsets.{gps_offsets}
 use Rattle.exif_edit_base.specs.Patches.{patched, zeros_over}
 use Rattle.exif_edit_base.specs.Readings.{Read, reading}
+use Rattle.exif_edit_base.specs.declared.error.Error.{Error}
 use Rattle.exif_edit_base.specs.declared.patch.Patch.{Patch}
 use Rattle.exif_edit_base.specs.declared.patch.Span.{Span}
 use Rattle.exif_edit_base.specs.Rereading.{clears}
@@ -77,6 +75,12 @@ kept read =
 abbrev pub cleared : Read → List ℕ → List Patch → Result (List Patch) Cause
 cleared read bytes patches = if clears (patched patches bytes) read then Ok patches else Err shared
 
+-- patches whose bytes are known to have no other use, or if what they make is read without GPS
+-- fields
+abbrev pub zeros_planned : Bool → Read → List ℕ → List Patch → Result (List Patch) Cause
+zeros_planned unshared read bytes patches =
+    if unshared then Ok patches else cleared (kept read) bytes patches
+
 -- what erases the GPS data, or why that is refused
 unfoldable pub erase_patches : List ℕ → Result (List Patch) Cause
 erase_patches bytes = do
@@ -87,3 +91,8 @@ erase_patches bytes = do
 -- the data without them
 abbrev pub erase_answer : List ℕ → Result (List ℕ) Cause
 erase_answer bytes = erase_patches bytes >>= λ patches. Ok (patched patches bytes)
+
+-- that an edit was made, or why not
+abbrev pub done_of : {A : Type 0} → Result A Error → Result (Unit {0}) Error
+done_of (Ok x) = Ok tt
+done_of (Err e) = Err e

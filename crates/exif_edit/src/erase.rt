@@ -1,17 +1,18 @@
 //! Offsets erased: GPS directories and their values become zero bytes.
 
-ghost use Rattle.std.specs.Prelude.{◌≡◌, ◌≤◌, ◌<◌, ◌+◌, ◌*◌, ◌^◌, ◌++◌, All, length, map, not, IfOk, OnOk};
+ghost use Rattle.std.specs.Prelude.{◌≡◌, ◌≤◌, ◌<◌, ◌+◌, ◌*◌, ◌^◌, ◌++◌, ℕ, true, All, List, Ok, length, map, not, IfOk, IfSome, OnOk};
 ghost use Rattle.std.specs.List.{flat_map};
 ghost use Rattle.exif_base.specs.Bytes.{spaced};
-ghost use Rattle.exif_base.specs.Orders.{number_of};
+ghost use Rattle.exif_base.specs.Orders.{number_of, order_named};
 ghost use Rattle.exif_edit_base.specs.Causes.{Edits, Makes};
 ghost use Rattle.exif_edit_base.specs.Locations.{visited_gps};
 ghost use Rattle.exif_edit_base.specs.Patches.{FitsIn, zeros_over};
-ghost use Rattle.exif_edit_base.specs.Readings.{read_of};
+ghost use Rattle.exif_edit_base.specs.Readings.{read_of, reading};
 ghost use Rattle.exif_edit_base.specs.Rereading.{clears};
 ghost use Rattle.exif_edit_base.specs.Spans.{value_span};
-ghost use Rattle.exif_edit.specs.Erasing.{clipped, directory_spans, erase_answer, erase_patches, gps_space, gps_spans, gps_value_span, is_gps, item_len, without_gps};
-ghost use Rattle.exif_edit_base.specs.Plans.{Plans};
+ghost use Rattle.exif_edit_base.specs.Walked.{Finds};
+ghost use Rattle.exif_edit.specs.Erasing.{clipped, directory_spans, done_of, erase_answer, erase_patches, gps_space, gps_spans, gps_value_span, is_gps, item_len, without_gps, zeros_planned};
+ghost use Rattle.exif_edit_base.specs.Plans.{Plans, planned};
 ghost use Rattle.exif_edit.specs.Promises.{IsErased};
 
 use crate::alone::gps_is_unshared;
@@ -178,25 +179,73 @@ fn drop_gps(fields: &mut Vec<Field>)
     fields.retain(|field| is_kept(field));
 }
 
+// The patches that erase GPS data, and whether it is known that their bytes have no other use.
+#[derive(Drop)]
+struct Zeros {
+    patches: Vec<Patch>,
+    unshared: bool,
+}
+
+// The patches that erase the GPS data of data that were located.
+fn zeros_of(alloc: Global, bytes: &[u8], located: &Located) -> Result<Zeros, AllocError>
+    requires reads { reading bytes.now ≡ Ok (read_of located.now.parsed) }
+    requires offsets { Finds bytes.now located.now.walk }
+    requires space { 8 ≤ length bytes.now }
+    requires small { length bytes.now < 2 ^ 32 }
+    ensures patches { IfOk result (λ z. z.patches.items ≡ map zeros_over
+        (gps_spans (number_of (order_named located.now.parsed.little_endian)) bytes.now)) }
+    ensures unshared { IfOk result
+        (λ z. z.unshared ≡ true → erase_patches bytes.now ≡ Ok z.patches.items) }
+    ensures within { IfOk result (λ z. All (FitsIn (length bytes.now)) z.patches.items) }
+{
+    let order = order_named(located.parsed.little_endian);
+    let patches = zeros_over_gps(alloc, order, bytes, located.walk.gps())?;
+    let unshared = gps_is_unshared(order, bytes, patches.as_slice(), &located.walk);
+    Ok(Zeros { patches, unshared })
+}
+
+// What erases GPS data, and how data that were read so must be read then: as anything if it is known
+// that the bytes have no other use.
+fn plan_of(zeros: Zeros, mut parsed: Parsed) -> Plan
+    ensures patches { result.patches.items ≡ zeros.patches.items }
+    ensures planned { (bytes : List ℕ) → planned bytes result
+        ≡ zeros_planned zeros.unshared (read_of parsed) bytes zeros.patches.items }
+{
+    let Zeros { patches, unshared } = zeros;
+    if unshared {
+        return Plan {
+            patches,
+            wanted: Wanted::Anything,
+        };
+    }
+    drop_gps(&mut parsed.fields);
+    Plan {
+        patches,
+        wanted: Wanted::Cleared(parsed),
+    }
+}
+
+// What erases GPS data of data that were located, and how the data must be read then.
+fn located_plan(alloc: Global, bytes: &[u8], located: Located) -> Result<Plan, AllocError>
+    requires reads { reading bytes.now ≡ Ok (read_of located.parsed) }
+    requires offsets { Finds bytes.now located.walk }
+    requires space { 8 ≤ length bytes.now }
+    requires small { length bytes.now < 2 ^ 32 }
+    ensures answer { IfOk result (λ p. planned bytes.now p ≡ erase_patches bytes.now) }
+    ensures within { IfOk result (λ p. All (FitsIn (length bytes.now)) p.patches.items) }
+{
+    let zeros = zeros_of(alloc, bytes, &located)?;
+    Ok(plan_of(zeros, located.parsed))
+}
+
 // What erases GPS data, and how the data must be read then: as anything if they are unshared.
 fn plan(alloc: Global, bytes: &[u8]) -> Result<Plan, Error>
     ensures answer { Plans result bytes.now (erase_patches bytes.now) }
     ensures within { IfOk result (λ p. All (FitsIn (length bytes.now)) p.patches.items) }
 {
-    let Located { mut parsed, walk } = locate(alloc, bytes)?;
-    let order = order_named(parsed.little_endian);
-    let patches = zeros_over_gps(alloc, order, bytes, walk.gps())?;
-    if gps_is_unshared(order, bytes, patches.as_slice(), &walk) {
-        return Ok(Plan {
-            patches,
-            wanted: Wanted::Anything,
-        });
-    }
-    drop_gps(&mut parsed.fields);
-    Ok(Plan {
-        patches,
-        wanted: Wanted::Cleared(parsed),
-    })
+    let located = locate(alloc, bytes)?;
+    let plan = located_plan(alloc, bytes, located)?;
+    Ok(plan)
 }
 
 /// What [`erase_gps`] puts over the data, as data: zeros over each GPS directory, and over each
@@ -227,4 +276,28 @@ pub fn erase_gps(alloc: Global, bytes: &mut [u8]) -> Result<(), Error>
 {
     let plan = plan(alloc, bytes)?;
     carry_out(alloc, bytes, plan)
+}
+
+/// Erases GPS data as [`Edit::EraseGps`](crate::Edit) does, of data that were located already, which
+/// saves a reading. What was located is answered again where there was nothing to erase: it is that
+/// of the data still.
+pub fn erase_located_gps(
+    alloc: Global,
+    bytes: &mut [u8],
+    located: Located,
+) -> Result<Option<Located>, Error>
+    requires reads { reading bytes.old ≡ Ok (read_of located.parsed) }
+    requires offsets { Finds bytes.old located.walk }
+    requires space { 8 ≤ length bytes.old }
+    requires small { length bytes.old < 2 ^ 32 }
+    ensures answer { Edits (done_of result) bytes.old bytes.new (erase_answer bytes.old) }
+    ensures unchanged { IfOk result (λ again. IfSome again (λ l. bytes.new ≡ bytes.old)) }
+    ensures again { IfOk result (λ again. IfSome again (λ l. l ≡ located)) }
+{
+    let zeros = zeros_of(alloc, bytes, &located)?;
+    if zeros.unshared && zeros.patches.is_empty() {
+        return Ok(Some(located));
+    }
+    carry_out(alloc, bytes, plan_of(zeros, located.parsed))?;
+    Ok(None)
 }

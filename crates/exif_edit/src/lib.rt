@@ -31,6 +31,7 @@ pub mod spell;
 mod spread;
 
 pub use edits::{Edit, apply, patches_of};
+pub use erase::erase_located_gps;
 pub use exif_edit_base::{Error, Patch, Unerased, leftovers};
 pub use file::{apply_in_file, holds};
 pub use source::patches_in;

@@ -5,6 +5,7 @@ pub mod Found
 pub mod LawsLocated
 pub mod LeftSteps
 pub mod LimitSteps
+pub mod LimitedReading
 pub mod LocatedEntries
 pub mod OffsetSteps
 pub mod PatchSteps

@@ -1,5 +1,5 @@
 -- Reading under a limit shows whether the data have more entries.
-use Rattle.std.proofs.Common.{◌≡◌, ◌≤◌, ◌<◌, ℕ, zero, suc, Bool, true, false, List, [], ◌∷◌, All, Some, None, Ok, Err, refl, sym, ap, subst, ◌∙◌, ⊎_elim, arith}
+use Rattle.std.proofs.Common.{◌≡◌, ◌≤◌, ◌<◌, ℕ, zero, suc, Bool, true, false, List, [], ◌∷◌, All, Some, refl, sym, ap, ◌∙◌, ⊎_elim, arith}
 use Rattle.std.specs.Prelude.{nat_lt}
 use Rattle.std.specs.List.{list_any}
 use Rattle.std.proofs.lemmas.Bool.{false≢true, or_right}
@@ -10,7 +10,7 @@ use Rattle.exif_tiff.specs.Answers.{Refused, raw_answer, shown}
 use Rattle.exif_tiff.specs.SoftFaults.{is_soft}
 use Rattle.exif_tiff.specs.Trace.{Node, Found, Met, Opens, Visit, cut, faults_of, fields_of, trace, visits_of}
 use Rattle.exif_tiff.specs.declared.fault.Fault.{Fault}
-use Rattle.exif_tiff.specs.declared.fault.Fault.TheVariants.{DataTooLarge, TruncatedHeader, InvalidByteOrder, InvalidFortyTwo, TruncatedCount, TruncatedDirectory, TruncatedNextOffset, TruncatedValue, InvalidPointer, UnexpectedNext, TooManyDirectories, TooManyEntries}
+use Rattle.exif_tiff.specs.declared.fault.Fault.TheVariants.{TooManyEntries}
 use Rattle.exif_tiff.proofs.Limits.{kept_within}
 use Rattle.exif_tiff.proofs.SoftFaults.{answer_behind, answer_refused, faults_soft, headers, trace_refused}
 use Rattle.exif_edit_base.specs.EntryLimit.{has_more, is_limit_fault}

@@ -3,7 +3,8 @@ use Rattle.std.specs.Prelude.{ℕ, nat_lt, Bool, true, false, List, Option, Some
 use Rattle.exif_tiff.specs.Trace.{trace, visits_of}
 use Rattle.exif_tiff.specs.declared.fault.Fault.{Fault}
 use Rattle.exif_tiff.specs.declared.fault.Fault.TheVariants.{TooManyEntries}
-use Rattle.exif_edit_base.specs.Causes.{Cause, unless, wrong_header}
+use Rattle.exif_edit_base.specs.Causes.{Cause, of_data, unless, wrong_header, ◌>>=◌}
+use Rattle.exif_edit_base.specs.Readings.{Read, reading}
 
 -- whether a fault is that of a limit
 abbrev pub is_limit_fault : Fault → Bool
@@ -22,3 +23,8 @@ exceeds (Some limit) bytes = has_more limit bytes
 -- nothing, unless the data have more entries than a limit
 abbrev pub within_limit : Option ℕ → List ℕ → Result (Unit {0}) Cause
 within_limit limit bytes = unless (exceeds limit bytes) (wrong_header TooManyEntries)
+
+-- what data hold, unless they have more entries than a limit
+abbrev pub limited_reading : ℕ → List ℕ → Result Read Cause
+limited_reading limit bytes =
+    within_limit (Some limit) bytes >>= λ u. of_data (reading bytes)

@@ -8,7 +8,7 @@ use Rattle.exif_tiff.specs.Trace.{directory_end, entry_offsets}
 use Rattle.exif_tiff.specs.declared.fault.Fault.{Fault}
 use Rattle.exif_edit_base.specs.Causes.{Cause, of_data, ◌>>=◌}
 use Rattle.exif_edit_base.specs.Locations.{visited_gps}
-use Rattle.exif_edit_base.specs.Readings.{Read, reading}
+use Rattle.exif_edit_base.specs.Readings.{reading}
 use Rattle.exif_edit_base.specs.declared.offsets.Target.{Target}
 use Rattle.exif_edit_base.specs.declared.offsets.Target.TheVariants.{Gps, Child}
 

@@ -1,15 +1,16 @@
 //! A reading that answers the offsets of fields and directories.
 
-ghost use Rattle.std.specs.Prelude.{◌≡◌, ◌++◌, None, true, IfOk, OnOk};
+ghost use Rattle.std.specs.Prelude.{◌≡◌, ◌++◌, None, Some, true, IfOk, OnOk};
 ghost use Rattle.exif_tiff.specs.Answers.{raw_answer};
 ghost use Rattle.exif_tiff.specs.Results.{AsksMemory, Says, SaysOrder};
+ghost use Rattle.exif_tiff.specs.Trace.{cut, trace};
 ghost use Rattle.exif_edit_base.specs.Locations.{gps_of, gps_offset};
 ghost use Rattle.exif_edit_base.specs.Results.{parsed_of};
-ghost use Rattle.exif_edit_base.specs.Walked.{Finds};
+ghost use Rattle.exif_edit_base.specs.Walked.{Finds, IsWalkOf, WalksTo};
 
 use exif_tiff::offsets::Offsets;
 use exif_tiff::stop::Stop;
-use exif_tiff::tiff::{Parsed, parse_located};
+use exif_tiff::tiff::{Parsed, Placed, parse_located, parse_located_within};
 use exif_tiff::{DirectoryOffset, EntryOffset};
 use exif_types::Context;
 use std::alloc::{AllocError, Global};
@@ -87,14 +88,11 @@ fn gps_of(alloc: Global, directories: &[DirectoryOffset]) -> Result<Vec<u32>, Al
     Ok(offsets)
 }
 
-/// Reads TIFF data leniently, and answers the offsets of what is read.
-pub fn read_located(alloc: Global, bytes: &[u8]) -> Result<Located, Stop>
-    ensures says { Says (parsed_of result) (raw_answer true None bytes.now) }
-    ensures order { SaysOrder (parsed_of result) bytes.now }
-    ensures memory { AsksMemory (parsed_of result) bytes.now }
-    ensures offsets { IfOk result (λ located. Finds bytes.now located.walk) }
+// What was read, with the offsets of GPS directories among those that were noted.
+fn located_in(alloc: Global, placed: Placed) -> Result<Located, AllocError>
+    ensures parsed { IfOk result (λ located. located.parsed ≡ placed.parsed) }
+    ensures offsets { IfOk result (λ located. IsWalkOf placed.offsets located.walk) }
 {
-    let placed = parse_located(alloc, bytes)?;
     let gps = gps_of(alloc, placed.offsets.directories())?;
     let walk = Walk {
         offsets: placed.offsets,
@@ -104,4 +102,30 @@ pub fn read_located(alloc: Global, bytes: &[u8]) -> Result<Located, Stop>
         parsed: placed.parsed,
         walk,
     })
+}
+
+/// Reads TIFF data leniently, and answers the offsets of what is read.
+pub fn read_located(alloc: Global, bytes: &[u8]) -> Result<Located, Stop>
+    ensures says { Says (parsed_of result) (raw_answer true None bytes.now) }
+    ensures order { SaysOrder (parsed_of result) bytes.now }
+    ensures memory { AsksMemory (parsed_of result) bytes.now }
+    ensures offsets { IfOk result (λ located. Finds bytes.now located.walk) }
+{
+    let placed = parse_located(alloc, bytes)?;
+    let located = located_in(alloc, placed)?;
+    Ok(located)
+}
+
+/// Reads TIFF data leniently up to a limit on the visited entries, and answers the offsets of what
+/// is read.
+pub fn read_located_within(alloc: Global, bytes: &[u8], limit: u64) -> Result<Located, Stop>
+    ensures says { Says (parsed_of result) (raw_answer true (Some limit) bytes.now) }
+    ensures order { SaysOrder (parsed_of result) bytes.now }
+    ensures memory { AsksMemory (parsed_of result) bytes.now }
+    ensures offsets { IfOk result
+        (λ located. WalksTo (cut limit (trace bytes.now)) located.walk) }
+{
+    let placed = parse_located_within(alloc, bytes, limit)?;
+    let located = located_in(alloc, placed)?;
+    Ok(located)
 }

@@ -1,5 +1,6 @@
 pub mod BehindLast
 pub mod BehindMeta
+pub mod BoxHeaders
 pub mod EntryTimes
 pub mod ExifNames
 pub mod ExtentRanges

@@ -2,11 +2,12 @@
 
 ghost use Rattle.std.specs.Prelude.{nat_le, take, drop, ◌≡◌, ◌==◌, ◌<◌, ◌≤◌, ℕ, List, length};
 ghost use Rattle.exif_types.specs.Refusals.{invalid_format, Takes};
-ghost use Rattle.exif_isobmff.specs.Boxes.{bytes_at, number_at, version_at, header_len, box_size, header_at, box_at, whole_part};
+ghost use Rattle.exif_isobmff.specs.Boxes.{bytes_at, number_at, version_at, header_len, header_at, box_at, whole_part};
 ghost use Rattle.exif_isobmff.specs.ItemLocations.{sized_at};
 
 use crate::Kind;
 use byteorder::{BigEndian, ByteOrder};
+use exif_inventory::boxes::{box_header, name_of};
 use exif_types::Error;
 use std::marker::Model;
 
@@ -127,28 +128,31 @@ impl<'a> BoxSplitter<'a> {
     }
 
     /// Whether the next box has a whole header.
+    #[tactic(auto, using(crate::proofs::BoxHeaders::is_found))]
     pub fn has_header(&self) -> bool
         ensures { result ≡ nat_le (header_len self.now) (length self.now) }
     {
-        self.rest.len() >= 8 && self.rest.len() >= header_len(self.rest)
+        box_header(self.rest).is_some()
     }
 
     /// The header of the next box, whose size is at least the header's, else `Invalid box size`.
-    #[tactic(auto, unfolding(crate::specs::Boxes::header_at))]
+    #[tactic(auto, using(crate::proofs::BoxHeaders::not_none))]
     pub fn header(&mut self) -> Result<Header, Error>
         requires { header_len self.old ≤ length self.old }
         ensures { Takes (λ h. h) result self.new (header_at self.old) }
     {
         let bytes = self.rest;
-        let head = header_len(bytes);
-        let size = box_size(bytes);
-        if size < head as u64 {
+        let Some(header) = box_header(bytes) else {
+            unreachable!()
+        };
+        let size = header.size.unwrap_or(bytes.len() as u64);
+        if size < header.front as u64 {
             return Err(Error::InvalidFormat("Invalid box size"));
         }
-        self.rest = &bytes[head..];
+        self.rest = &bytes[header.front..];
         Ok(Header {
-            kind: Kind::of(&bytes[4..8]),
-            len: size - head as u64,
+            kind: Kind::of(name_of(bytes)),
+            len: size - header.front as u64,
         })
     }
 
@@ -173,28 +177,4 @@ pub struct Header {
     pub kind: Kind,
     /// The length of its body in bytes.
     pub len: u64,
-}
-
-// How many bytes of a box are its size and its type.
-fn header_len(bytes: &[u8]) -> usize
-    requires { 8 ≤ length bytes.now }
-    ensures { result ≡ header_len bytes.now }
-{
-    if BigEndian::read_u32(bytes) == 1 {
-        16
-    } else {
-        8
-    }
-}
-
-// How many bytes a box takes.
-fn box_size(bytes: &[u8]) -> u64
-    requires { header_len bytes.now ≤ length bytes.now }
-    ensures { result ≡ box_size bytes.now }
-{
-    match BigEndian::read_u32(bytes) {
-        0 => bytes.len() as u64,
-        1 => BigEndian::read_u64(&bytes[8..]),
-        size => u64::from(size),
-    }
 }

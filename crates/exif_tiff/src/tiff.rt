@@ -137,6 +137,18 @@ pub fn parse_located(alloc: Global, bytes: &[u8]) -> Result<Placed, Stop>
     parse_within(alloc, bytes, true, u64::MAX, true)
 }
 
+/// Reads TIFF data leniently, up to a limit on the visited entries, with the offsets of what it
+/// reads.
+pub fn parse_located_within(alloc: Global, bytes: &[u8], limit: u64) -> Result<Placed, Stop>
+    ensures says { Says (parsed_of result) (raw_answer true (Some limit) bytes.now) }
+    ensures order { SaysOrder (parsed_of result) bytes.now }
+    ensures memory { AsksMemory (parsed_of result) bytes.now }
+    ensures offsets { IfOk result
+        (λ placed. TellsOffsets (cut limit (trace bytes.now)) placed.offsets) }
+{
+    parse_within(alloc, bytes, true, limit, true)
+}
+
 /// Reads TIFF data strictly: the fields, and whether the data are little endian. The first fault
 /// is the error.
 pub fn parse_exif(alloc: Global, bytes: &[u8]) -> Result<(Vec<Field>, bool), Error>

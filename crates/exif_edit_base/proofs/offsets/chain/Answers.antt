@@ -1,4 +1,4 @@
-use Rattle.std.proofs.Common.{arith, sym, ◌∙◌, ◌-◌}
+use Rattle.std.proofs.Common.{sym, ◌∙◌, ◌-◌}
 use Rattle.exif_base.specs.Orders.{number_of}
 use Rattle.exif_edit_base.proofs.OffsetSteps.{chain_ends, chain_on, chain_stops}
 use Rattle.exif_edit_base.proofs.offsets.chain.Goals as goal

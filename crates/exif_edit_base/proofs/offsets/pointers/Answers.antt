@@ -1,4 +1,4 @@
-use Rattle.std.proofs.Common.{arith, ap, length, ◌∙◌, ◌≤◌}
+use Rattle.std.proofs.Common.{arith, ap}
 use Rattle.std.specs.List.{flat_map}
 use Rattle.exif_base.specs.Orders.{number_of}
 use Rattle.exif_edit_base.specs.GpsOffsets.{pointers, pointers_in}
