@@ -1,4 +1,5 @@
 mod Alike
 mod FieldSteps
+mod Refused
 mod ResourceSteps
 mod ThumbnailSteps

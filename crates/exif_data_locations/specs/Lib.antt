@@ -2,6 +2,7 @@ pub mod Erasing
 pub mod Versions
 pub mod Examples
 pub mod FieldRegions
+pub mod Known
 pub mod Locations
 pub mod Promises
 pub mod Regions

@@ -2,6 +2,7 @@
 
 ghost use Rattle.std.specs.Prelude.{◌≡◌, ◌<◌, ◌^◌, length, All, IfOk, OnOk};
 ghost use Rattle.exif_data_locations.specs.Erasing.{checked, fields_erased, gps_erased, has_number, if_read, own_erased, read_erased, unread_noted};
+ghost use Rattle.exif_data_locations.specs.Known.{IsLocated, MayBeLocated, MayBeRead};
 ghost use Rattle.exif_data_locations.specs.Regions.{LiesIn, regions_erased};
 ghost use Rattle.exif_data_locations.specs.Wanted.{wanted};
 ghost use Rattle.exif_edit_base.specs.Readings.{read_of};
@@ -12,7 +13,7 @@ use crate::region::{Region, erase_regions};
 use crate::text::note_texts;
 use crate::wanted::set_all_wanted;
 use crate::why::{Why, note_if};
-use exif_edit_base::limit::check_limit;
+use exif_edit_base::limit::locate_within;
 use exif_edit_base::read::{locate, order_named, reads_as};
 use exif_edit_base::{EntryOffset, Error, Located};
 use exif_locations::Unread;
@@ -79,93 +80,108 @@ fn put_if_read(
     Ok(())
 }
 
-// Erases the locations of regions, if the data are read as it is wanted then.
+// Erases the locations of regions, if the data are read as it is wanted then, and answers what is
+// read of the new data if there are no regions.
 fn erase_checked(
     alloc: Global,
     unread: Unread,
     bytes: &mut [u8],
     regions: &[Region],
-    entries: &[EntryOffset],
-    parsed: Parsed,
+    located: Located,
     whys: &mut Vec<Why>,
-) -> Result<(), AllocError>
+) -> Result<Option<Parsed>, AllocError>
     requires within { All (LiesIn (length bytes.old)) regions.now }
-    requires small { length bytes.old < 2 ^ 32 }
-    ensures { OnOk result ((bytes.new, whys.new.items)
-        ≡ checked unread (read_of parsed) entries.now bytes.old regions.now whys.old.items) }
+    requires located { IsLocated bytes.old located }
+    ensures erased { OnOk result ((bytes.new, whys.new.items) ≡ checked unread
+        (read_of located.parsed) located.walk.entries bytes.old regions.now whys.old.items) }
+    ensures read { IfOk result (λ parsed. MayBeRead bytes.new parsed) }
 {
+    let Located { parsed, walk } = located;
     if regions.is_empty() {
-        return Ok(());
+        return Ok(Some(parsed));
     }
     let mut new = Vec::from_slice(alloc, bytes)?;
     erase_regions(unread, new.as_mut_slice(), regions, whys)?;
-    put_if_read(alloc, bytes, new.as_slice(), entries, parsed, whys)
+    put_if_read(alloc, bytes, new.as_slice(), walk.entries(), parsed, whys)?;
+    Ok(None)
 }
 
-// Erases the locations of fields that were read.
-fn erase_read(
+// Erases the locations of fields of data that were located, and answers what is read of the new
+// data, if that is known.
+fn erase_located(
     alloc: Global,
     unread: Unread,
     bytes: &mut [u8],
-    entries: &[EntryOffset],
-    parsed: Parsed,
+    located: Located,
     whys: &mut Vec<Why>,
-) -> Result<(), AllocError>
-    requires small { length bytes.old < 2 ^ 32 }
-    ensures { OnOk result ((bytes.new, whys.new.items)
-        ≡ read_erased unread (read_of parsed) entries.now bytes.old whys.old.items) }
+) -> Result<Option<Parsed>, AllocError>
+    requires { IsLocated bytes.old located }
+    ensures erased { OnOk result ((bytes.new, whys.new.items) ≡ read_erased unread
+        (read_of located.parsed) located.walk.entries bytes.old whys.old.items) }
+    ensures read { IfOk result (λ parsed. MayBeRead bytes.new parsed) }
 {
-    let order = order_named(parsed.little_endian);
-    let regions = regions_of(alloc, order, bytes, parsed.fields.as_slice(), entries)?;
-    note_unread(&parsed, whys)?;
-    erase_checked(
-        alloc,
-        unread,
-        bytes,
-        regions.as_slice(),
-        entries,
-        parsed,
-        whys,
-    )
+    let order = order_named(located.parsed.little_endian);
+    let fields = located.parsed.fields.as_slice();
+    let regions = regions_of(alloc, order, bytes, fields, located.walk.entries())?;
+    note_unread(&located.parsed, whys)?;
+    erase_checked(alloc, unread, bytes, regions.as_slice(), located, whys)
 }
 
-// Erases the locations of fields.
+// Erases the locations of fields, and answers what is read of the new data, if that is known.
 fn erase_fields(
     alloc: Global,
     unread: Unread,
     bytes: &mut [u8],
+    located: Option<Located>,
     whys: &mut Vec<Why>,
-) -> Result<(), AllocError>
-    ensures { OnOk result ((bytes.new, whys.new.items)
+) -> Result<Option<Parsed>, AllocError>
+    requires { MayBeLocated bytes.old located }
+    ensures erased { OnOk result ((bytes.new, whys.new.items)
         ≡ fields_erased unread (bytes.old, whys.old.items)) }
+    ensures read { IfOk result (λ parsed. MayBeRead bytes.new parsed) }
 {
+    if let Some(located) = located {
+        return erase_located(alloc, unread, bytes, located, whys);
+    }
     match locate(alloc, bytes) {
-        Ok(Located { parsed, walk }) => {
-            erase_read(alloc, unread, bytes, walk.entries(), parsed, whys)
-        }
-        Err(Stop::Fault(_)) => Ok(()),
+        Ok(located) => erase_located(alloc, unread, bytes, located, whys),
+        Err(Stop::Fault(_)) => Ok(None),
         Err(Stop::OutOfMemory) => Err(AllocError),
     }
 }
 
-/// Erases GPS data and the locations of fields.
-pub fn erase_all(alloc: Global, unread: Unread, bytes: &mut [u8]) -> Result<Vec<Why>, AllocError>
-    ensures { IfOk result (λ whys. (bytes.new, whys.items)
+/// Erases GPS data and the locations of fields of data that were located, and answers why some may
+/// be left; and what is read of the new data, if that is known.
+pub fn erase_all(
+    alloc: Global,
+    unread: Unread,
+    bytes: &mut [u8],
+    located: Located,
+) -> Result<(Vec<Why>, Option<Parsed>), AllocError>
+    requires { IsLocated bytes.old located }
+    ensures erased { IfOk result (λ r. (bytes.new, r.0.items)
         ≡ fields_erased unread (gps_erased bytes.old)) }
+    ensures read { IfOk result (λ r. MayBeRead bytes.new r.1) }
 {
-    let mut whys = erase_gps(alloc, bytes)?;
-    erase_fields(alloc, unread, bytes, &mut whys)?;
-    Ok(whys)
+    let (mut whys, located) = erase_gps(alloc, bytes, located)?;
+    let parsed = erase_fields(alloc, unread, bytes, located, &mut whys)?;
+    Ok((whys, parsed))
 }
 
 /// Erases the locations in Exif data but for those in their thumbnail, and answers why there may
-/// still be one. Data with too many entries stay whole.
-pub fn erase_own(alloc: Global, unread: Unread, bytes: &mut [u8]) -> Result<Vec<Why>, AllocError>
-    ensures { IfOk result (λ whys. (bytes.new, whys.items) ≡ own_erased unread bytes.old) }
+/// still be one; and what is read of the new data, if that is known. Data with too many entries
+/// stay whole.
+pub fn erase_own(
+    alloc: Global,
+    unread: Unread,
+    bytes: &mut [u8],
+) -> Result<(Vec<Why>, Option<Parsed>), AllocError>
+    ensures erased { IfOk result (λ r. (bytes.new, r.0.items) ≡ own_erased unread bytes.old) }
+    ensures read { IfOk result (λ r. MayBeRead bytes.new r.1) }
 {
-    match check_limit(alloc, bytes, Some(ENTRY_LIMIT)) {
-        Ok(()) => erase_all(alloc, unread, bytes),
-        Err(Error::OutOfMemory) => Err(AllocError),
-        Err(_) => unchanged(alloc),
+    match locate_within(alloc, bytes, ENTRY_LIMIT) {
+        Ok(located) => erase_all(alloc, unread, bytes, located),
+        Err(Error::Header(_)) => Ok((unchanged(alloc)?, None)),
+        Err(_) => Err(AllocError),
     }
 }

@@ -1,21 +1,26 @@
 //! GPS data erased.
 
-ghost use Rattle.std.specs.Prelude.{◌≡◌, not, IfOk, [], ◌∷◌};
+ghost use Rattle.std.specs.Prelude.{◌≡◌, ◌≤◌, ◌<◌, ◌^◌, not, length, IfOk, Ok, Some, [], ◌∷◌};
 ghost use Rattle.exif_data_locations.specs.Erasing.{gps_erased, is_followed, noted_if};
+ghost use Rattle.exif_data_locations.specs.Known.{IsLocated, MayBeLocated};
+ghost use Rattle.exif_edit_base.specs.Readings.{read_of, reading};
+ghost use Rattle.exif_edit_base.specs.Walked.{Finds};
 
 use crate::why::Why;
-use exif_edit::{Edit, Error, apply, leftovers};
+use exif_edit::{Edit, Error, apply, erase_located_gps};
+use exif_edit_base::Located;
+use exif_edit_base::read::locate;
+use exif_edit_base::unerased::leftovers_of;
+use exif_tiff::stop::Stop;
 use std::alloc::{AllocError, Global};
 
-// Whether all GPS pointers are followed.
-fn is_followed(alloc: Global, bytes: &[u8]) -> Result<bool, AllocError>
+// Whether all GPS pointers of data that were located are followed.
+fn is_followed(alloc: Global, bytes: &[u8], located: &Located) -> Result<bool, AllocError>
+    requires { IsLocated bytes.now located.now }
     ensures { IfOk result (λ all. all ≡ is_followed bytes.now) }
 {
-    match leftovers(alloc, bytes) {
-        Ok(left) => Ok(left.pointers.is_empty() && !left.meets_limit),
-        Err(Error::OutOfMemory) => Err(AllocError),
-        Err(_) => Ok(false),
-    }
+    let left = leftovers_of(alloc, bytes, located)?;
+    Ok(left.pointers.is_empty() && !left.meets_limit)
 }
 
 // One reason.
@@ -27,15 +32,33 @@ fn one(alloc: Global, why: Why) -> Result<Vec<Why>, AllocError>
     Ok(whys)
 }
 
-// The reason why GPS data may be left.
-fn left_gps(alloc: Global, bytes: &[u8]) -> Result<Vec<Why>, AllocError>
+// The reason why GPS data of data that were located may be left.
+fn left_of(alloc: Global, bytes: &[u8], located: &Located) -> Result<Vec<Why>, AllocError>
+    requires { IsLocated bytes.now located.now }
     ensures { IfOk result (λ whys.
         whys.items ≡ noted_if (not (is_followed bytes.now)) Why.GpsNotFollowed []) }
 {
-    if is_followed(alloc, bytes)? {
+    if is_followed(alloc, bytes, located)? {
         Ok(Vec::new(alloc))
     } else {
         one(alloc, Why::GpsNotFollowed)
+    }
+}
+
+// The same of data that are located first, and what was located.
+#[tactic(auto, using(crate::proofs::Refused::none_followed))]
+fn left_gps(alloc: Global, bytes: &[u8]) -> Result<(Vec<Why>, Option<Located>), AllocError>
+    ensures whys { IfOk result (λ r.
+        r.0.items ≡ noted_if (not (is_followed bytes.now)) Why.GpsNotFollowed []) }
+    ensures located { IfOk result (λ r. MayBeLocated bytes.now r.1) }
+{
+    match locate(alloc, bytes) {
+        Ok(located) => {
+            let whys = left_of(alloc, bytes, &located)?;
+            Ok((whys, Some(located)))
+        }
+        Err(Stop::Fault(_)) => Ok((one(alloc, Why::GpsNotFollowed)?, None)),
+        Err(Stop::OutOfMemory) => Err(AllocError),
     }
 }
 
@@ -46,14 +69,25 @@ pub fn unchanged(alloc: Global) -> Result<Vec<Why>, AllocError>
     one(alloc, Why::NotChanged)
 }
 
-/// Erases GPS data, and answers why some may be left.
-pub fn erase_gps(alloc: Global, bytes: &mut [u8]) -> Result<Vec<Why>, AllocError>
-    ensures { IfOk result (λ whys. (bytes.new, whys.items) ≡ gps_erased bytes.old) }
+/// Erases GPS data of data that were located, and answers why some may be left; and what is located
+/// of the new data, if that is known.
+pub fn erase_gps(
+    alloc: Global,
+    bytes: &mut [u8],
+    located: Located,
+) -> Result<(Vec<Why>, Option<Located>), AllocError>
+    requires { IsLocated bytes.old located }
+    ensures whys { IfOk result (λ r. (bytes.new, r.0.items) ≡ gps_erased bytes.old) }
+    ensures located { IfOk result (λ r. MayBeLocated bytes.new r.1) }
 {
-    match apply(alloc, &Edit::EraseGps, None, bytes) {
-        Ok(()) => left_gps(alloc, bytes),
+    match erase_located_gps(alloc, bytes, located) {
+        Ok(Some(located)) => {
+            let whys = left_of(alloc, bytes, &located)?;
+            Ok((whys, Some(located)))
+        }
+        Ok(None) => left_gps(alloc, bytes),
         Err(Error::OutOfMemory) => Err(AllocError),
-        Err(Error::SharedBytes) => one(alloc, Why::GpsShared),
-        Err(_) => unchanged(alloc),
+        Err(Error::SharedBytes) => Ok((one(alloc, Why::GpsShared)?, None)),
+        Err(_) => Ok((unchanged(alloc)?, None)),
     }
 }

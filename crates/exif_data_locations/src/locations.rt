@@ -2,6 +2,7 @@
 
 ghost use Rattle.std.specs.Prelude.{◌≡◌, IfOk};
 ghost use Rattle.exif_data_locations.specs.Erasing.{fields_erased, gps_erased};
+ghost use Rattle.exif_data_locations.specs.Known.{IsLocated};
 ghost use Rattle.exif_data_locations.specs.Locations.{data_erased};
 ghost use Rattle.exif_data_locations.specs.Thumbnails.{thumbnail_erased};
 
@@ -9,22 +10,24 @@ use crate::erase::{ENTRY_LIMIT, erase_all};
 use crate::gps::unchanged;
 use crate::thumbnail::erase_thumbnail;
 use crate::why::Why;
-use exif_edit_base::Error;
-use exif_edit_base::limit::check_limit;
+use exif_edit_base::limit::locate_within;
+use exif_edit_base::{Error, Located};
 use exif_locations::Unread;
 use std::alloc::{AllocError, Global};
 
-// Erases the locations in data, and then those in their thumbnail.
+// Erases the locations in data that were located, and then those in their thumbnail.
 fn erase_with_thumbnail(
     alloc: Global,
     unread: Unread,
     bytes: &mut [u8],
+    located: Located,
 ) -> Result<Vec<Why>, AllocError>
+    requires { IsLocated bytes.old located }
     ensures { IfOk result (λ whys. (bytes.new, whys.items)
         ≡ thumbnail_erased unread (fields_erased unread (gps_erased bytes.old))) }
 {
-    let mut whys = erase_all(alloc, unread, bytes)?;
-    erase_thumbnail(alloc, unread, bytes, &mut whys)?;
+    let (mut whys, parsed) = erase_all(alloc, unread, bytes, located)?;
+    erase_thumbnail(alloc, unread, bytes, parsed, &mut whys)?;
     Ok(whys)
 }
 
@@ -52,9 +55,9 @@ pub fn erase_locations(
 ) -> Result<Vec<Why>, AllocError>
     ensures { IfOk result (λ whys. (bytes.new, whys.items) ≡ data_erased unread bytes.old) }
 {
-    match check_limit(alloc, bytes, Some(ENTRY_LIMIT)) {
-        Ok(()) => erase_with_thumbnail(alloc, unread, bytes),
-        Err(Error::OutOfMemory) => Err(AllocError),
-        Err(_) => unchanged(alloc),
+    match locate_within(alloc, bytes, ENTRY_LIMIT) {
+        Ok(located) => erase_with_thumbnail(alloc, unread, bytes, located),
+        Err(Error::Header(_)) => Ok(unchanged(alloc)?),
+        Err(_) => Err(AllocError),
     }
 }

@@ -1,10 +1,11 @@
 //! The thumbnail of Exif data (Exif 2.32, 4.5.8): a JPEG stream with metadata of its own.
 
-ghost use Rattle.std.specs.Prelude.{◌≡◌, ◌+◌, ◌≤◌, false, drop, length, All, IfOk, IfSome, OnOk};
+ghost use Rattle.std.specs.Prelude.{◌≡◌, ◌+◌, ◌≤◌, false, drop, length, All, IfNone, IfOk, IfSome, IsErr, OnOk};
 ghost use Rattle.std.specs.Str.{bytes_eq};
 ghost use Rattle.exif_data_locations.specs.Erasing.{own_erased};
+ghost use Rattle.exif_data_locations.specs.Known.{MayBeRead};
 ghost use Rattle.exif_data_locations.specs.Thumbnails.{chain_tag, has_thumbnail, if_same, number_named, other_answer, part_answer, part_erased, parts_erased, read_thumbnail_erased, second, span_erased, span_in, stream_erased, stretch_erased, thumbnail_erased, thumbnail_span, unjudged, what_of, with_further};
-ghost use Rattle.exif_edit_base.specs.Readings.{read_of};
+ghost use Rattle.exif_edit_base.specs.Readings.{read_of, reading};
 ghost use Rattle.exif_inventory.specs.Promises.{EndsIn};
 ghost use Rattle.exif_types.specs.Lookup.{is_named};
 
@@ -118,14 +119,34 @@ fn erase_other(unread: Unread, kind: Kind, bytes: &mut [u8]) -> bool
     erase_what(OFFSET, unread, what, bytes).is_some()
 }
 
+// What is read of data, where that is not known already; `None` where their header is wrong.
+fn read_if_unknown(
+    alloc: Global,
+    bytes: &[u8],
+    known: Option<Parsed>,
+) -> Result<Option<Parsed>, AllocError>
+    requires { MayBeRead bytes.now known }
+    ensures some { IfOk result (λ parsed. MayBeRead bytes.now parsed) }
+    ensures none { IfOk result (λ parsed. IfNone parsed (IsErr (reading bytes.now))) }
+{
+    if known.is_some() {
+        return Ok(known);
+    }
+    match read(alloc, bytes) {
+        Ok(parsed) => Ok(Some(parsed)),
+        Err(Stop::Fault(_)) => Ok(None),
+        Err(Stop::OutOfMemory) => Err(AllocError),
+    }
+}
+
 // Whether data have a thumbnail.
-fn has_thumbnail(alloc: Global, bytes: &[u8]) -> Result<bool, AllocError>
+fn has_thumbnail(alloc: Global, bytes: &[u8], known: Option<Parsed>) -> Result<bool, AllocError>
+    requires { MayBeRead bytes.now known }
     ensures { IfOk result (λ has. has ≡ has_thumbnail bytes.now) }
 {
-    match read(alloc, bytes) {
-        Ok(parsed) => Ok(thumbnail_span(bytes.len(), parsed.fields.as_slice()).is_some()),
-        Err(Stop::Fault(_)) => Ok(false),
-        Err(Stop::OutOfMemory) => Err(AllocError),
+    match read_if_unknown(alloc, bytes, known)? {
+        Some(parsed) => Ok(thumbnail_span(bytes.len(), parsed.fields.as_slice()).is_some()),
+        None => Ok(false),
     }
 }
 
@@ -135,8 +156,8 @@ fn erase_further(alloc: Global, unread: Unread, bytes: &mut [u8]) -> Result<bool
     ensures { IfOk result (λ left. (bytes.new, left)
         ≡ with_further (own_erased unread bytes.old)) }
 {
-    let whys = erase_own(alloc, unread, bytes)?;
-    let further = has_thumbnail(alloc, bytes)?;
+    let (whys, parsed) = erase_own(alloc, unread, bytes)?;
+    let further = has_thumbnail(alloc, bytes, parsed)?;
     Ok(!whys.is_empty() || further)
 }
 
@@ -281,19 +302,21 @@ fn erase_read(
     }
 }
 
-/// Erases the locations in the thumbnail of data, and notes why there may still be one.
+/// Erases the locations in the thumbnail of data, and notes why there may still be one. What is
+/// read of the data is not read again, if it is known.
 pub fn erase_thumbnail(
     alloc: Global,
     unread: Unread,
     bytes: &mut [u8],
+    known: Option<Parsed>,
     whys: &mut Vec<Why>,
 ) -> Result<(), AllocError>
+    requires { MayBeRead bytes.old known }
     ensures { OnOk result ((bytes.new, whys.new.items)
         ≡ thumbnail_erased unread (bytes.old, whys.old.items)) }
 {
-    match read(alloc, bytes) {
-        Ok(parsed) => erase_read(alloc, unread, bytes, &parsed, whys),
-        Err(Stop::Fault(_)) => Ok(()),
-        Err(Stop::OutOfMemory) => Err(AllocError),
+    match read_if_unknown(alloc, bytes, known)? {
+        Some(parsed) => erase_read(alloc, unread, bytes, &parsed, whys),
+        None => Ok(()),
     }
 }

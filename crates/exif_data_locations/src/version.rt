@@ -4,11 +4,13 @@ ghost use Rattle.std.specs.Prelude.{◌≡◌, Some, IfOk};
 ghost use Rattle.std.specs.List.{list_any};
 ghost use Rattle.std.specs.Option.{option_map};
 ghost use Rattle.exif_data_locations.specs.Erasing.{gps_erased};
+ghost use Rattle.exif_data_locations.specs.Known.{IsLocated};
 ghost use Rattle.exif_data_locations.specs.Versions.{has_version_alone, may_locate, version_erased};
 ghost use Rattle.exif_edit_base.specs.Readings.{read_of};
 
 use crate::gps::erase_gps;
-use exif_edit_base::read::read;
+use exif_edit_base::Located;
+use exif_edit_base::read::locate;
 use exif_tiff::stop::Stop;
 use exif_tiff::tiff::Parsed;
 use exif_types::{Context, Field};
@@ -35,12 +37,13 @@ fn has_version_alone(parsed: &Parsed) -> bool
     parsed.faults.is_empty() && !any_locates(parsed.fields.as_slice())
 }
 
-// Data without their GPS data.
-fn without_gps(alloc: Global, bytes: &[u8]) -> Result<Vec<u8>, AllocError>
+// Data that were located, without their GPS data.
+fn without_gps(alloc: Global, bytes: &[u8], located: Located) -> Result<Vec<u8>, AllocError>
+    requires { IsLocated bytes.now located }
     ensures { IfOk result (λ new. new.items ≡ (gps_erased bytes.now).0) }
 {
     let mut new = Vec::from_slice(alloc, bytes)?;
-    erase_gps(alloc, new.as_mut_slice())?;
+    erase_gps(alloc, new.as_mut_slice(), located)?;
     Ok(new)
 }
 
@@ -49,8 +52,10 @@ fn without_gps(alloc: Global, bytes: &[u8]) -> Result<Vec<u8>, AllocError>
 pub fn without_version(alloc: Global, bytes: &[u8]) -> Result<Option<Vec<u8>>, AllocError>
     ensures { IfOk result (λ new. option_map (λ v. v.items) new ≡ version_erased bytes.now) }
 {
-    match read(alloc, bytes) {
-        Ok(parsed) if has_version_alone(&parsed) => Ok(Some(without_gps(alloc, bytes)?)),
+    match locate(alloc, bytes) {
+        Ok(located) if has_version_alone(&located.parsed) => {
+            Ok(Some(without_gps(alloc, bytes, located)?))
+        }
         Ok(_) => Ok(None),
         Err(Stop::Fault(_)) => Ok(None),
         Err(Stop::OutOfMemory) => Err(AllocError),

@@ -7,3 +7,5 @@ pub mod Stays
 pub mod HeifTwice
 pub mod TiffSteps
 pub mod TiffTwice
+pub mod JpegSteps
+pub mod JpegSame

@@ -19,7 +19,7 @@ and_of true y z = refl
 and_of false y z = refl
 
 -- a text, and what follows it
-split_eq : (text more bytes : List ℕ) → length text ≤ length bytes
+pub split_eq : (text more bytes : List ℕ) → length text ≤ length bytes
     → bytes_eq (text ++ more) bytes ≡ (bytes_eq text (take (length text) bytes) && bytes_eq more (drop (length text) bytes))
 split_eq [] more bytes h = refl
 split_eq (x ∷ text) more [] h = absurd (omega arith)

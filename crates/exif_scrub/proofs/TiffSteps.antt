@@ -1,16 +1,16 @@
 -- One more entry, strip or directory, and those that are left.
-use Rattle.std.proofs.Common.{◌≡◌, ◌≢◌, ℕ, zero, suc, ◌+◌, ◌*◌, ◌==◌, Bool, true, false, if◌then◌else◌, List, Option, Some, Result, Ok, Err, ap, sym, refl, arith, ◌∙◌}
+use Rattle.std.proofs.Common.{◌≡◌, ◌≢◌, ℕ, zero, suc, ◌+◌, ◌*◌, ◌==◌, Bool, false, if◌then◌else◌, List, Option, Some, Result, Ok, Err, ap, sym, refl, arith, ◌∙◌}
 use Rattle.std.proofs.lemmas.Bool.Decides.{nat_tests}
 use Rattle.exif_base.specs.Bytes.{Reading}
 use Rattle.exif_base.specs.Orders.{number_of}
 use Rattle.exif_base.specs.declared.endian.Order.{Order}
 use Rattle.exif_scrub.specs.Directories.{chain_walked, child_walked, children_from, children_walked, children_named, directory_visited, entries_kept, next_of, one_more, tags_tested}
-use Rattle.exif_scrub.specs.Entries.{count_of, entry_kept, entry_named, item_at}
-use Rattle.exif_scrub.specs.Keeping.{◌>>=◌, kept_bytes, number_in}
-use Rattle.exif_scrub.specs.Pictures.{strip_kept, strips_from}
-use Rattle.exif_scrub.specs.Tags.{describes_picture}
+use Rattle.exif_scrub.specs.Entries.{count_of, entry_kept, entry_named, entry_tested, item_at}
+use Rattle.exif_scrub.specs.Keeping.{◌>>=◌, number_in, stretch_visited}
+use Rattle.exif_scrub.specs.Pictures.{strip_visited, strips_from}
 use Rattle.exif_scrub.specs.declared.tiff.fault.Fault.{Fault}
-use Rattle.exif_scrub.specs.declared.tiff.fault.Fault.TheVariants.{SharedBytes, TooManyDirectories}
+use Rattle.exif_scrub.specs.declared.tiff.fault.Fault.TheVariants.{TooManyDirectories}
+use Rattle.exif_scrub.specs.declared.tiff.pass.Handling.{Handling}
 use Rattle.exif_scrub.specs.declared.tiff.pass.Pass.{Pass}
 
 -- ---- entries
@@ -31,41 +31,29 @@ entries_stop number old o n first left k e to kept new f is there put =
 
 -- ---- tags
 
--- what is left to test behind an entry
-abbrev after : Reading → List ℕ → Bool → ℕ → ℕ → ℕ → Result Unit Fault
-after number old o k e tag = if describes_picture o tag then tags_tested number old o k (e + 12) else Err SharedBytes
+pub tags_step : (number : Reading) (old : List ℕ) (o : Bool) (left k e next : ℕ) → left ≡ suc k → next ≡ e + 12
+    → Ok tt ≡ entry_tested number old o e → tags_tested number old o left e ≡ tags_tested number old o k next
+tags_step number old o left k e next is at test =
+    rw (is, at) (ap (λ (x : Result Unit Fault). x >>= λ u. tags_tested number old o k (e + 12)) (sym test))
 
-pub tags_step : (number : Reading) (old : List ℕ) (o : Bool) (left k e next tag : ℕ) → left ≡ suc k → next ≡ e + 12
-    → Ok tag ≡ number_in number 2 old e → describes_picture o tag ≡ true
-    → tags_tested number old o left e ≡ tags_tested number old o k next
-tags_step number old o left k e next tag is at read kept =
-    rw (is, at) (ap (λ (x : Result ℕ Fault). x >>= after number old o k e) (sym read)
-    ∙ ap (λ (b : Bool). if b then tags_tested number old o k (e + 12) else Err SharedBytes) kept)
-
-pub tags_stop : (number : Reading) (old : List ℕ) (o : Bool) (left k e tag : ℕ) → left ≡ suc k
-    → Ok tag ≡ number_in number 2 old e → describes_picture o tag ≡ false
-    → tags_tested number old o left e ≡ Err SharedBytes
-tags_stop number old o left k e tag is read other =
-    rw is (ap (λ (x : Result ℕ Fault). x >>= after number old o k e) (sym read)
-    ∙ ap (λ (b : Bool). if b then tags_tested number old o k (e + 12) else Err SharedBytes) other)
-
-pub tags_halt : (number : Reading) (old : List ℕ) (o : Bool) (left k e : ℕ) (f : Fault) → left ≡ suc k
-    → Err f ≡ number_in number 2 old e → tags_tested number old o left e ≡ Err f
-tags_halt number old o left k e f is read = rw is (ap (λ (x : Result ℕ Fault). x >>= after number old o k e) (sym read))
+pub tags_stop : (number : Reading) (old : List ℕ) (o : Bool) (left k e : ℕ) (f : Fault) → left ≡ suc k
+    → Err f ≡ entry_tested number old o e → tags_tested number old o left e ≡ Err f
+tags_stop number old o left k e f is test =
+    rw is (ap (λ (x : Result Unit Fault). x >>= λ u. tags_tested number old o k (e + 12)) (sym test))
 
 -- ---- strips
 
-pub strips_step : (number : Reading) (old : List ℕ) (offsets lengths left k index : ℕ) (new made : List ℕ)
-    → left ≡ suc k → strip_kept number old offsets lengths index new ≡ Ok made
-    → strips_from number old offsets lengths left index new ≡ strips_from number old offsets lengths k (index + 1) made
-strips_step number old offsets lengths left k index new made is put =
-    rw is (ap (λ (r : Result (List ℕ) Fault). r >>= strips_from number old offsets lengths k (index + 1)) put)
+pub strips_step : (number : Reading) (old : List ℕ) (how : Handling) (offsets lengths left k index : ℕ) (new made : List ℕ)
+    → left ≡ suc k → strip_visited number old how offsets lengths index new ≡ Ok made
+    → strips_from number old how offsets lengths left index new ≡ strips_from number old how offsets lengths k (index + 1) made
+strips_step number old how offsets lengths left k index new made is put =
+    rw is (ap (λ (r : Result (List ℕ) Fault). r >>= strips_from number old how offsets lengths k (index + 1)) put)
 
-pub strips_stop : (number : Reading) (old : List ℕ) (offsets lengths left k index : ℕ) (new : List ℕ) (f : Fault)
-    → left ≡ suc k → strip_kept number old offsets lengths index new ≡ Err f
-    → strips_from number old offsets lengths left index new ≡ Err f
-strips_stop number old offsets lengths left k index new f is put =
-    rw is (ap (λ (r : Result (List ℕ) Fault). r >>= strips_from number old offsets lengths k (index + 1)) put)
+pub strips_stop : (number : Reading) (old : List ℕ) (how : Handling) (offsets lengths left k index : ℕ) (new : List ℕ) (f : Fault)
+    → left ≡ suc k → strip_visited number old how offsets lengths index new ≡ Err f
+    → strips_from number old how offsets lengths left index new ≡ Err f
+strips_stop number old how offsets lengths left k index new f is put =
+    rw is (ap (λ (r : Result (List ℕ) Fault). r >>= strips_from number old how offsets lengths k (index + 1)) put)
 
 -- ---- directories below one
 
@@ -101,24 +89,24 @@ children_whole order old o p count e n new a b c =
 
 -- ---- a strip
 
-pub strip_is : (number : Reading) (old : List ℕ) (offsets lengths index at len : ℕ) (new : List ℕ) (r : Result (List ℕ) Fault)
-    → Ok at ≡ item_at number old offsets index → Ok len ≡ item_at number old lengths index → kept_bytes old at len at new ≡ r
-    → strip_kept number old offsets lengths index new ≡ r
-strip_is number old offsets lengths index at len new r a b put =
-    ap (λ (x : Result ℕ Fault). x >>= λ p. item_at number old lengths index >>= λ n. kept_bytes old p n p new) (sym a)
-    ∙ ap (λ (x : Result ℕ Fault). x >>= λ n. kept_bytes old at n at new) (sym b) ∙ put
+pub strip_is : (number : Reading) (old : List ℕ) (how : Handling) (offsets lengths index at len : ℕ) (new : List ℕ) (r : Result (List ℕ) Fault)
+    → Ok at ≡ item_at number old offsets index → Ok len ≡ item_at number old lengths index → stretch_visited how old at len new ≡ r
+    → strip_visited number old how offsets lengths index new ≡ r
+strip_is number old how offsets lengths index at len new r a b put =
+    ap (λ (x : Result ℕ Fault). x >>= λ p. item_at number old lengths index >>= λ n. stretch_visited how old p n new) (sym a)
+    ∙ ap (λ (x : Result ℕ Fault). x >>= λ n. stretch_visited how old at n new) (sym b) ∙ put
 
-pub strip_first : (number : Reading) (old : List ℕ) (offsets lengths index : ℕ) (new : List ℕ) (f : Fault)
-    → Err f ≡ item_at number old offsets index → strip_kept number old offsets lengths index new ≡ Err f
-strip_first number old offsets lengths index new f a =
-    ap (λ (x : Result ℕ Fault). x >>= λ p. item_at number old lengths index >>= λ n. kept_bytes old p n p new) (sym a)
+pub strip_first : (number : Reading) (old : List ℕ) (how : Handling) (offsets lengths index : ℕ) (new : List ℕ) (f : Fault)
+    → Err f ≡ item_at number old offsets index → strip_visited number old how offsets lengths index new ≡ Err f
+strip_first number old how offsets lengths index new f a =
+    ap (λ (x : Result ℕ Fault). x >>= λ p. item_at number old lengths index >>= λ n. stretch_visited how old p n new) (sym a)
 
-pub strip_second : (number : Reading) (old : List ℕ) (offsets lengths index at : ℕ) (new : List ℕ) (f : Fault)
+pub strip_second : (number : Reading) (old : List ℕ) (how : Handling) (offsets lengths index at : ℕ) (new : List ℕ) (f : Fault)
     → Ok at ≡ item_at number old offsets index → Err f ≡ item_at number old lengths index
-    → strip_kept number old offsets lengths index new ≡ Err f
-strip_second number old offsets lengths index at new f a b =
-    ap (λ (x : Result ℕ Fault). x >>= λ p. item_at number old lengths index >>= λ n. kept_bytes old p n p new) (sym a)
-    ∙ ap (λ (x : Result ℕ Fault). x >>= λ n. kept_bytes old at n at new) (sym b)
+    → strip_visited number old how offsets lengths index new ≡ Err f
+strip_second number old how offsets lengths index at new f a b =
+    ap (λ (x : Result ℕ Fault). x >>= λ p. item_at number old lengths index >>= λ n. stretch_visited how old p n new) (sym a)
+    ∙ ap (λ (x : Result ℕ Fault). x >>= λ n. stretch_visited how old at n new) (sym b)
 
 -- ---- entries by their tags
 

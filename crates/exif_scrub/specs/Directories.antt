@@ -5,12 +5,11 @@ use Rattle.exif_base.specs.Bytes.{Reading}
 use Rattle.exif_base.specs.Orders.{number_of}
 use Rattle.exif_base.specs.declared.endian.Order.{Order}
 use Rattle.exif_layout.specs.Encoding.{spelled}
-use Rattle.exif_scrub.specs.Entries.{count_of, entry_kept, entry_named, item_at}
+use Rattle.exif_scrub.specs.Entries.{count_of, entry_kept, entry_named, entry_tested, item_at}
 use Rattle.exif_scrub.specs.Keeping.{◌>>=◌, kept_bytes, number_in}
-use Rattle.exif_scrub.specs.Pictures.{picture_kept}
-use Rattle.exif_scrub.specs.Tags.{describes_picture}
+use Rattle.exif_scrub.specs.Pictures.{picture_visited}
 use Rattle.exif_scrub.specs.declared.tiff.fault.Fault.{Fault}
-use Rattle.exif_scrub.specs.declared.tiff.fault.Fault.TheVariants.{NotSupported, SharedBytes, TooManyDirectories}
+use Rattle.exif_scrub.specs.declared.tiff.fault.Fault.TheVariants.{NotSupported, TooManyDirectories}
 use Rattle.exif_scrub.specs.declared.tiff.pass.Pass.{Pass}
 use Rattle.exif_scrub.specs.declared.tiff.pass.Pass.TheVariants.{Keep, Pictures, Tags}
 
@@ -30,11 +29,12 @@ entries_kept number old keeps_orientation is_nested first (suc left) e kept new 
 
 -- the new file with the count of a directory and the offset of the next one, behind so many of its
 -- entries, and with its picture
-abbrev pub directory_closed : Order → List ℕ → ℕ → ℕ → ℕ × List ℕ → Result (List ℕ) Fault
-directory_closed order old p count (kept, new) =
+abbrev pub directory_closed : Order → List ℕ → Bool → ℕ → ℕ → ℕ × List ℕ
+    → Result (List ℕ) Fault
+directory_closed order old keeps_orientation p count (kept, new) =
     kept_bytes (spelled order 2 kept) 0 2 p new
     >>= λ counted. kept_bytes old (p + 2 + 12 * count) 4 (p + 2 + 12 * kept) counted
-    >>= λ closed. picture_kept (number_of order) old count (p + 2) closed
+    >>= λ closed. picture_visited (number_of order) old (Keep keeps_orientation) count (p + 2) closed
 
 -- the new file with a directory and its picture
 abbrev pub directory_kept : Order → List ℕ → Bool → Bool → ℕ → List ℕ → Result (List ℕ) Fault
@@ -42,19 +42,20 @@ directory_kept order old keeps_orientation is_nested p new =
     number_in (number_of order) 2 old p
     >>= λ count. entries_kept (number_of order) old keeps_orientation is_nested (p + 2) count
     (p + 2) 0 new
-    >>= λ made. directory_closed order old p count made
+    >>= λ made. directory_closed order old keeps_orientation p count made
 
--- the new file with the picture of a directory alone
-abbrev pub directory_picture : Reading → List ℕ → ℕ → List ℕ → Result (List ℕ) Fault
-directory_picture number old p new =
-    number_in number 2 old p >>= λ count. picture_kept number old count (p + 2) new
+-- the new file where a walk comes to the picture of a directory alone
+abbrev pub directory_picture : Reading → List ℕ → Pass → ℕ → List ℕ → Result (List ℕ) Fault
+directory_picture number old pass p new =
+    number_in number 2 old p >>= λ count. picture_visited number old pass count (p + 2) new
 
--- whether so many entries from e on all describe the picture; one that does not is refused
+-- whether so many entries from e on all describe the picture, and no value of theirs has metadata;
+-- others are refused
 abbrev pub tags_tested : Reading → List ℕ → Bool → ℕ → ℕ → Result Unit Fault
 tags_tested number old keeps_orientation zero e = Ok tt
 tags_tested number old keeps_orientation (suc left) e =
-    number_in number 2 old e >>= λ tag. if describes_picture keeps_orientation tag
-    then tags_tested number old keeps_orientation left (e + 12) else Err SharedBytes
+    entry_tested number old keeps_orientation e
+    >>= λ u. tags_tested number old keeps_orientation left (e + 12)
 
 -- the same of a directory
 abbrev pub directory_tested : Reading → List ℕ → Bool → ℕ → Result Unit Fault
@@ -68,9 +69,10 @@ abbrev pub directory_visited : Order → List ℕ → Pass → Bool → ℕ → 
 directory_visited order old (Keep keeps_orientation) is_nested p new =
     directory_kept order old keeps_orientation is_nested p new
 directory_visited order old Pictures is_nested p new =
-    directory_picture (number_of order) old p new
+    directory_picture (number_of order) old Pictures p new
 directory_visited order old (Tags keeps_orientation) is_nested p new =
-    directory_tested (number_of order) old keeps_orientation p >>= λ u. Ok new
+    directory_tested (number_of order) old keeps_orientation p
+    >>= λ u. directory_picture (number_of order) old (Tags keeps_orientation) p new
 
 -- the offset of the directory behind one
 abbrev pub next_of : Reading → List ℕ → ℕ → Result ℕ Fault

@@ -1,10 +1,10 @@
 -- The entries of a directory, and their values (TIFF 6.0, section 2, "Image File Directory").
 use Rattle.std.specs.Prelude.{◌≡◌, ℕ, zero, suc, ◌+◌, ◌*◌, nat_le, not, ◌==◌, ◌&&◌, ◌||◌, Bool, true, false, List, Option, Some, None, Result, Ok, Err, if◌then◌else◌}
 use Rattle.exif_base.specs.Bytes.{Reading}
-use Rattle.exif_scrub.specs.Keeping.{◌>>=◌, kept_bytes, number_in}
+use Rattle.exif_scrub.specs.Keeping.{◌>>=◌, kept_bytes, number_in, stretch_kept, stretch_tested}
 use Rattle.exif_scrub.specs.Tags.{describes_picture, in_range, is_raw_compression, is_raw_photometric, size_of_type}
 use Rattle.exif_scrub.specs.declared.tiff.fault.Fault.{Fault}
-use Rattle.exif_scrub.specs.declared.tiff.fault.Fault.TheVariants.{NotSupported, Raw}
+use Rattle.exif_scrub.specs.declared.tiff.fault.Fault.TheVariants.{NotSupported, Raw, SharedBytes}
 
 -- the type of the entry at an offset
 abbrev pub kind_of : Reading → List ℕ → ℕ → Result ℕ Fault
@@ -62,23 +62,25 @@ abbrev pub checked_tag : Reading → List ℕ → Bool → ℕ → Result ℕ Fa
 checked_tag number old is_nested e =
     number_in number 2 old e >>= tag_checked number old is_nested e
 
--- the new file with a value of so many bytes that is outside of its entry
-abbrev pub value_put : Reading → List ℕ → ℕ → ℕ → List ℕ → Result (List ℕ) Fault
-value_put number old e len new =
+-- the new file with a value of so many bytes that is outside of its entry; that of JPEG tables is a
+-- stream
+abbrev pub value_put : Reading → List ℕ → ℕ → ℕ → ℕ → List ℕ → Result (List ℕ) Fault
+value_put number old e tag len new =
     if nat_le len 4 then Ok new
-    else number_in number 4 old (e + 8) >>= λ at. kept_bytes old at len at new
+    else number_in number 4 old (e + 8) >>= λ at. stretch_kept (tag == 347) old at len new
 
 -- the same of an entry
-abbrev pub value_kept : Reading → List ℕ → ℕ → List ℕ → Result (List ℕ) Fault
-value_kept number old e new = do
+abbrev pub value_kept : Reading → List ℕ → ℕ → ℕ → List ℕ → Result (List ℕ) Fault
+value_kept number old e tag new = do
   kind ← kind_of number old e
   count ← count_of number old e
-  value_put number old e (size_of_type kind * count) new
+  value_put number old e tag (size_of_type kind * count) new
 
 -- the new file with an entry and its value, and that it stays
-abbrev pub entry_put : Reading → List ℕ → ℕ → ℕ → List ℕ → Result (Bool × List ℕ) Fault
-entry_put number old e to new =
-    kept_bytes old e 12 to new >>= λ with. value_kept number old e with >>= λ made. Ok (true, made)
+abbrev pub entry_put : Reading → List ℕ → ℕ → ℕ → ℕ → List ℕ → Result (Bool × List ℕ) Fault
+entry_put number old e tag to new =
+    kept_bytes old e 12 to new
+    >>= λ with. value_kept number old e tag with >>= λ made. Ok (true, made)
 
 -- the same where the entry describes the picture
 abbrev pub entry_kept : Reading → List ℕ → Bool → Bool → ℕ → ℕ → List ℕ
@@ -87,7 +89,27 @@ entry_kept number old keeps_orientation is_nested e to new = do
   tag ← checked_tag number old is_nested e
   kind ← kind_of number old e
   if not (describes_picture keeps_orientation tag) || (size_of_type kind == 0)
-      then Ok (false, new) else entry_put number old e to new
+      then Ok (false, new) else entry_put number old e tag to new
+
+-- JPEG tables of so many bytes with metadata are refused
+abbrev pub tables_by : Reading → List ℕ → ℕ → ℕ → Result Unit Fault
+tables_by number old e len =
+    if nat_le len 4 then Ok tt
+    else number_in number 4 old (e + 8) >>= λ at. stretch_tested true old at len
+
+-- the same of an entry of JPEG tables
+abbrev pub tables_tested : Reading → List ℕ → ℕ → Result Unit Fault
+tables_tested number old e = do
+  kind ← kind_of number old e
+  count ← count_of number old e
+  tables_by number old e (size_of_type kind * count)
+
+-- an entry that does not describe the picture is refused, and so is one of JPEG tables with metadata
+abbrev pub entry_tested : Reading → List ℕ → Bool → ℕ → Result Unit Fault
+entry_tested number old keeps_orientation e =
+    number_in number 2 old e
+    >>= λ tag. if not (describes_picture keeps_orientation tag) then Err SharedBytes else
+    if tag == 347 then tables_tested number old e else Ok tt
 
 -- a call answered this and made the new file so, or was refused so
 abbrev pub Goes : {A : Type 0} → Result A Fault → List ℕ → Result (A × List ℕ) Fault → Type 0

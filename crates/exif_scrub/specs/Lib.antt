@@ -3,11 +3,13 @@ pub mod HeifScrubbing
 pub mod HeifPromises
 pub mod HeifExamples
 pub mod Tags
+pub mod JpegStreams
 pub mod Keeping
 pub mod Entries
 pub mod Pictures
 pub mod Directories
 pub mod TiffScrubbing
 pub mod TiffExamples
+pub mod JpegStreamExamples
 pub mod HeifFaultTexts
 pub mod TiffFaultTexts

@@ -26,6 +26,11 @@ is_raw_compression n =
 abbrev pub is_raw_photometric : ℕ → Bool
 is_raw_photometric n = (n == 32803) || (n == 34892)
 
+-- whether a compression is JPEG: the old one, the one of TIFF Technical Note 2, or the lossy one of
+-- DNG
+abbrev pub is_jpeg_compression : ℕ → Bool
+is_jpeg_compression n = (n == 6) || (n == 7) || (n == 34892)
+
 -- how many bytes an item of a type has; 0 for a type that is not known
 abbrev pub size_of_type : ℕ → ℕ
 size_of_type n =

@@ -46,7 +46,7 @@ abbrev pub makes : List ℕ → Result (List ℕ) Fault → Bool
 makes new (Ok made) = bytes_eq made new
 makes new (Err fault) = false
 
--- whether all tags of a file describe the picture
+-- whether all tags of a file describe the picture, and none of its JPEG streams has metadata
 abbrev pub only_described : Bool → List ℕ → Bool
 only_described keeps_orientation file = is_ok (file_walked (Tags keeps_orientation) file [])
 
@@ -55,8 +55,8 @@ abbrev pub is_settled : Bool → List ℕ → Bool
 is_settled keeps_orientation new =
     makes new (kept_once keeps_orientation new) && only_described keeps_orientation new
 
--- whether a new file has the picture's data as they were: all bytes are, or the strips, tiles and
--- JPEG streams of the old one, put over it, change nothing
+-- whether a new file has the picture's data as they were: all bytes are, or each strip, tile and
+-- JPEG stream of the old one is, without metadata in such a stream
 abbrev pub keeps_picture : List ℕ → List ℕ → Bool
 keeps_picture old new = bytes_eq old new || makes new (file_walked Pictures old new)
 

@@ -2,5 +2,6 @@
 //! picture changes or moves.
 #![tactic(auto)]
 
+mod bytes;
 pub mod heif;
 pub mod tiff;

@@ -1,8 +1,8 @@
 //! TIFF files without their metadata: the picture stays where it is, and all else becomes zero.
 //!
 //! [`scrub`] keeps the directories with the tags that describe their pictures, the values of these
-//! tags, and the strips and tiles. Every other byte becomes zero; none moves but entries, which
-//! close up.
+//! tags, and the strips and tiles. Every other byte becomes zero, also in JPEG streams; none moves
+//! but entries, which close up.
 
 mod bytes;
 mod directory;
@@ -12,6 +12,7 @@ mod file;
 pub mod laws;
 mod pass;
 mod picture;
+mod stream;
 mod tags;
 
 pub use fault::Fault;

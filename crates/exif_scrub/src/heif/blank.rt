@@ -4,6 +4,7 @@ ghost use Rattle.std.specs.Prelude.{◌≡◌, ◌<◌, ◌≤◌, ◌-◌, leng
 ghost use Rattle.std.specs.Str.{bytes_eq};
 ghost use Rattle.exif_scrub.specs.HeifBlanks.{all_are, as_free, blanked, cleared_from, free_front, freed, is_blank, item_or_box, no_fields, no_properties, padded, renamed, role_blank, span_blank, unknown_box};
 
+use crate::bytes::all_are;
 use exif_inventory::Kind;
 use exif_inventory_heif::{Role, Span};
 
@@ -92,18 +93,6 @@ pub fn overwrite(how: Blank, bytes: &mut [u8])
             make_free(front, bytes);
         }
     }
-}
-
-// Whether all bytes are this one.
-fn all_are(b: u8, bytes: &[u8]) -> bool
-    ensures { result ≡ all_are b bytes.now }
-{
-    for x in bytes {
-        if b != *x {
-            return false;
-        }
-    }
-    true
 }
 
 // Whether bytes are a text, if it fits, and then only this byte.

@@ -7,11 +7,10 @@ ghost use Rattle.exif_scrub.specs.Entries.{Goes};
 ghost use Rattle.exif_scrub.specs.Keeping.{Puts};
 
 use crate::tiff::bytes::{Old, keep};
-use crate::tiff::entry::{count_of, entry_named, item_at, keep_entry};
+use crate::tiff::entry::{count_of, entry_named, item_at, keep_entry, test_entry};
 use crate::tiff::fault::Fault;
 use crate::tiff::pass::Pass;
-use crate::tiff::picture::keep_picture;
-use crate::tiff::tags::describes_picture;
+use crate::tiff::picture::visit_picture;
 use exif_layout::item::spelled_u16;
 
 // Keeps the entries of a directory that describe its picture, closed up: how many they are.
@@ -56,19 +55,19 @@ fn keep_directory(
     keep(&spelled_u16(old.order, kept), 0, 2, new, at)?;
     let end = first + 12 * u64::from(count);
     keep(old.bytes, end, 4, new, first + 12 * u64::from(kept))?;
-    keep_picture(old, count, first, new)
+    visit_picture(old, Pass::Keep(keeps_orientation), count, first, new)
 }
 
-// Keeps the picture of a directory alone.
-fn keep_directory_picture(old: Old<'_>, at: u32, new: &mut [u8]) -> Result<(), Fault>
+// What a walk does with the picture of a directory alone.
+fn visit_directory_picture(old: Old<'_>, pass: Pass, at: u32, new: &mut [u8]) -> Result<(), Fault>
     ensures { Puts result new.new
-        (directory_picture (number_of old.entry.order) old.entry.bytes.now at new.old) }
+        (directory_picture (number_of old.entry.order) old.entry.bytes.now pass at new.old) }
 {
     let count = old.short(u64::from(at))?;
-    keep_picture(old, count, u64::from(at) + 2, new)
+    visit_picture(old, pass, count, u64::from(at) + 2, new)
 }
 
-// Refuses entries of which one does not describe the picture.
+// Refuses entries of which one does not describe the picture, or has a value with metadata.
 fn test_tags(old: Old<'_>, keeps_orientation: bool, count: u16, first: u64) -> Result<(), Fault>
     requires { first < 2 ^ 61 }
     ensures { result ≡ tags_tested (number_of old.entry.order) old.entry.bytes.now
@@ -77,9 +76,7 @@ fn test_tags(old: Old<'_>, keeps_orientation: bool, count: u16, first: u64) -> R
     let mut left = count;
     let mut at = first;
     while left > 0 {
-        if !describes_picture(keeps_orientation, old.short(at)?) {
-            return Err(Fault::SharedBytes);
-        }
+        test_entry(old, keeps_orientation, at)?;
         at += 12;
         left -= 1;
     }
@@ -108,8 +105,11 @@ fn visit_directory(
 {
     match pass {
         Pass::Keep(keeps_orientation) => keep_directory(old, keeps_orientation, is_nested, at, new),
-        Pass::Pictures => keep_directory_picture(old, at, new),
-        Pass::Tags(keeps_orientation) => test_directory(old, keeps_orientation, at),
+        Pass::Pictures => visit_directory_picture(old, pass, at, new),
+        Pass::Tags(keeps_orientation) => {
+            test_directory(old, keeps_orientation, at)?;
+            visit_directory_picture(old, pass, at, new)
+        }
     }
 }
 

@@ -2,12 +2,14 @@
 
 ghost use Rattle.std.specs.Prelude.{◌≡◌, ◌<◌, ◌≤◌, ◌^◌, IfOk, IfSome};
 ghost use Rattle.exif_base.specs.Orders.{number_of};
-ghost use Rattle.exif_scrub.specs.Entries.{Goes, checked_tag, count_of, entry_kept, entry_named, entry_put, item_at, kind_of, unless_raw, value_kept, values_at};
+ghost use Rattle.exif_scrub.specs.Entries.{Goes, checked_tag, count_of, entry_kept, entry_named, entry_put, entry_tested, item_at, kind_of, tables_tested, unless_raw, value_kept, values_at};
 ghost use Rattle.exif_scrub.specs.Keeping.{Puts};
 
-use crate::tiff::bytes::{Old, keep};
+use crate::tiff::bytes::{Old, keep, keep_stretch, test_stretch};
 use crate::tiff::fault::Fault;
-use crate::tiff::tags::{describes_picture, is_raw_compression, is_raw_photometric, size_of_type};
+use crate::tiff::tags::{
+    JPEG_TABLES, describes_picture, is_raw_compression, is_raw_photometric, size_of_type,
+};
 
 // The type of the entry at an offset.
 fn kind_of(old: Old<'_>, entry: u64) -> Result<u16, Fault>
@@ -77,11 +79,11 @@ fn checked_tag(old: Old<'_>, is_nested: bool, entry: u64) -> Result<u16, Fault>
     Ok(tag)
 }
 
-// Keeps the value of an entry that is outside of it.
-fn keep_value(old: Old<'_>, entry: u64, new: &mut [u8]) -> Result<(), Fault>
+// Keeps the value of an entry with this tag that is outside of it. That of JPEG tables is a stream.
+fn keep_value(old: Old<'_>, entry: u64, tag: u16, new: &mut [u8]) -> Result<(), Fault>
     requires { entry < 2 ^ 62 }
     ensures { Puts result new.new
-        (value_kept (number_of old.entry.order) old.entry.bytes.now entry new.old) }
+        (value_kept (number_of old.entry.order) old.entry.bytes.now entry tag new.old) }
 {
     let kind = kind_of(old, entry)?;
     let count = count_of(old, entry)?;
@@ -90,7 +92,38 @@ fn keep_value(old: Old<'_>, entry: u64, new: &mut [u8]) -> Result<(), Fault>
         return Ok(());
     }
     let at = u64::from(old.long(entry + 8)?);
-    keep(old.bytes, at, len, new, at)
+    keep_stretch(old.bytes, tag == JPEG_TABLES, at, len, new)
+}
+
+// Refuses an entry of JPEG tables that have metadata.
+fn test_tables(old: Old<'_>, entry: u64) -> Result<(), Fault>
+    requires { entry < 2 ^ 62 }
+    ensures { result ≡ tables_tested (number_of old.entry.order) old.entry.bytes.now entry }
+{
+    let kind = kind_of(old, entry)?;
+    let count = count_of(old, entry)?;
+    let len = size_of_type(kind) * u64::from(count);
+    if len <= 4 {
+        return Ok(());
+    }
+    let at = u64::from(old.long(entry + 8)?);
+    test_stretch(old.bytes, true, at, len)
+}
+
+/// Refuses an entry that does not describe the picture, and one of JPEG tables that have metadata.
+pub fn test_entry(old: Old<'_>, keeps_orientation: bool, entry: u64) -> Result<(), Fault>
+    requires { entry < 2 ^ 62 }
+    ensures { result ≡ entry_tested (number_of old.entry.order) old.entry.bytes.now
+        keeps_orientation entry }
+{
+    let tag = old.short(entry)?;
+    if !describes_picture(keeps_orientation, tag) {
+        return Err(Fault::SharedBytes);
+    }
+    if tag == JPEG_TABLES {
+        return test_tables(old, entry);
+    }
+    Ok(())
 }
 
 /// Keeps an entry with its value, if it describes the picture: whether it does.
@@ -112,7 +145,7 @@ pub fn keep_entry(
         return Ok(false);
     }
     keep(old.bytes, entry, 12, new, to)?;
-    keep_value(old, entry, new)?;
+    keep_value(old, entry, tag, new)?;
     Ok(true)
 }
 

@@ -68,7 +68,7 @@ fn kept_once(
     }
 }
 
-// Whether all tags of a file describe the picture.
+// Whether all tags of a file describe the picture, and none of its JPEG streams has metadata.
 fn only_described(file: &[u8], keeps_orientation: bool) -> bool
     ensures { result ≡ only_described keeps_orientation file.now }
 {
@@ -106,6 +106,10 @@ fn keeps_picture(alloc: Global, old: &[u8], new: &[u8]) -> Result<bool, AllocErr
 /// the tags that describe their pictures, the values of these tags, and the strips, tiles and JPEG
 /// streams. Every other byte is zero. Nothing moves but entries, which close up. With
 /// `keeps_orientation` the orientation stays too.
+///
+/// Of JPEG streams, which strips and tiles are by their compression, the picture's segments, scans
+/// and colour profile stay, and the fields of JFIF and Adobe. The contents of all other segments
+/// become zeros, and so does what is outside of segments and behind the image.
 ///
 /// A file whose picture can't be told apart is refused ([`Fault`]). What comes out stays as it is
 /// where it is scrubbed again, has no other tags, and the picture's data are as they were

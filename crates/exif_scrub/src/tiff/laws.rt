@@ -12,7 +12,7 @@ pub fn scrubbing_twice_is_once()
 {}
 
 /// A TIFF file without its metadata has only tags that describe the picture, in all its
-/// directories, and is zero but for these directories, the values of their tags, and the picture's
+/// directories, and no metadata in their JPEG streams, and is zero but for these directories, the values of their tags, and the picture's
 /// data.
 pub fn only_the_picture_is_left()
     ensures tags { (keeps_orientation : Bool) (file new : List ℕ)
@@ -23,8 +23,8 @@ pub fn only_the_picture_is_left()
         → kept_once keeps_orientation new ≡ Ok new }
 {}
 
-/// The picture's data are the same: the strips, tiles and JPEG streams of the old file, put over
-/// the new one where they were, change nothing, or the new file is the old one.
+/// The picture's data are the same: each strip, tile and JPEG stream of the old file is in the new
+/// one where it was, with zeros for the metadata of such a stream, or the new file is the old one.
 pub fn the_picture_stays()
     ensures { (keeps_orientation : Bool) (file new : List ℕ)
         → scrubbed keeps_orientation file ≡ Ok new

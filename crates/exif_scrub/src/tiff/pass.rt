@@ -5,9 +5,19 @@
 pub enum Pass {
     /// Keeps it and its picture, and its orientation if this is so.
     Keep(bool),
-    /// Keeps its picture alone: strips, tiles and JPEG streams.
+    /// Refuses the new file if one of the strips, tiles and JPEG streams does not have the bytes
+    /// there that stay.
     Pictures,
-    /// Refuses it if one of its tags does not describe the picture. The orientation does if this is
-    /// so.
+    /// Refuses it if one of its tags does not describe the picture, or a JPEG stream of it has
+    /// metadata. The orientation describes the picture if this is so.
     Tags(bool),
+}
+
+/// How a walk handles the bytes of a picture.
+#[derive(Clone, Copy)]
+pub struct Handling {
+    /// What it does.
+    pub pass: Pass,
+    /// Whether they are JPEG streams.
+    pub is_stream: bool,
 }

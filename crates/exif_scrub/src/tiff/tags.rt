@@ -1,10 +1,10 @@
 //! Which tags describe a picture, and which ones show a raw file.
 
 ghost use Rattle.std.specs.Prelude.{◌≡◌};
-ghost use Rattle.exif_scrub.specs.Tags.{describes_picture, is_raw_compression, is_raw_photometric, size_of_type};
+ghost use Rattle.exif_scrub.specs.Tags.{describes_picture, is_jpeg_compression, is_raw_compression, is_raw_photometric, size_of_type};
 
-/// The tag of the directories below one.
-pub const SUB_IFDS: u16 = 330;
+/// The tag of the tables that the JPEG streams of a picture share: a stream too.
+pub const JPEG_TABLES: u16 = 347;
 
 /// Whether a tag describes its picture, so that it stays. The orientation does where it is kept.
 pub fn describes_picture(keeps_orientation: bool, tag: u16) -> bool
@@ -45,6 +45,13 @@ pub fn is_raw_photometric(number: u32) -> bool
     ensures { result ≡ is_raw_photometric number }
 {
     matches!(number, 32803 | 34892)
+}
+
+/// Whether a compression is JPEG.
+pub fn is_jpeg_compression(number: u32) -> bool
+    ensures { result ≡ is_jpeg_compression number }
+{
+    matches!(number, 6 | 7 | 34892)
 }
 
 /// How many bytes an item of a type has; 0 for a type that is not known.

@@ -1,6 +1,6 @@
 use Rattle.std.proofs.Common.{◌≡◌, drop}
 use Rattle.exif_scrub.specs.HeifBlanks.{all_are}
-use Rattle.exif_scrub.proofs.heif.blank.all_are.Given as goal
+use Rattle.exif_scrub.proofs.bytes.all_are.Given as goal
 
 -- those that are left decide
 abbrev pub invariant-loop-x : goal.invariant-loop-x

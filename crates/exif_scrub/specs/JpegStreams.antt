@@ -1,0 +1,70 @@
+-- The JPEG streams of a picture without their metadata (ITU-T T.81, B.1.1; TIFF 6.0, section 22;
+-- TIFF Technical Note 2; JFIF 1.02).
+use Rattle.std.specs.Prelude.{ℕ, zero, suc, ◌+◌, ◌-◌, min, List, [], ◌∷◌, ◌++◌, length, take, drop, replicate, Bool, false, ◌==◌, if◌then◌else◌}
+use Rattle.exif_inventory.specs.JpegPieces.{fill_len, is_jpeg, stream_piece}
+use Rattle.exif_inventory.specs.declared.kind.Kind.{Kind}
+use Rattle.exif_inventory.specs.declared.kind.Kind.TheVariants as kind
+use Rattle.exif_inventory.specs.declared.piece.Piece.{Piece}
+use Rattle.exif_inventory.specs.declared.piece.State.{State}
+use Rattle.exif_inventory.specs.declared.piece.State.TheVariants.{Stream, Resources}
+use Rattle.exif_scrub.specs.declared.tiff.stream.Step.{Step}
+
+-- how many bytes of a marker segment stay, whose marker follows so many ffs: the marker and the
+-- length; none of what is outside of segments
+abbrev pub marker_kept : ℕ → ℕ
+marker_kept fills = if fills == 0 then 0 else fills + 3
+
+-- how many bytes of a piece of so many stay: all of the picture's and of its colour profile; the
+-- twelve bytes of fields of a JFIF header and of Adobe's segment; else the marker and the length
+abbrev pub piece_kept : Kind → ℕ → ℕ → ℕ
+piece_kept kind.Picture fills len = len
+piece_kept kind.IccProfile fills len = len
+piece_kept kind.Jfif fills len = min len (fills + 15)
+piece_kept kind.Adobe fills len = min len (fills + 15)
+piece_kept k fills len = min len (marker_kept fills)
+
+-- how many of all bytes a piece has, with the resources that it begins; where the image ends, or a
+-- piece is cut off, all
+abbrev pub full_len : State → ℕ → ℕ → ℕ
+full_len (Stream picture scanned) len all = len
+full_len (Resources picture scanned n) len all = len + min n (all - len)
+full_len state len all = all
+
+-- whether a scan began
+abbrev pub is_scanned : State → Bool
+is_scanned (Stream picture scanned) = scanned
+is_scanned (Resources picture scanned n) = scanned
+is_scanned state = false
+
+-- what becomes of a piece of so many bytes
+abbrev pub piece_step : Piece → ℕ → ℕ → Step
+piece_step piece fills all = record {
+  len = full_len piece.next piece.len all;
+  kept = piece_kept piece.kind fills piece.len;
+  scanned = is_scanned piece.next;
+}
+
+-- what becomes of the bytes at the front of a stream behind its first marker
+abbrev pub step_of : Bool → List ℕ → Step
+step_of scanned bytes =
+    piece_step (stream_piece 0 scanned bytes) (fill_len bytes) (length bytes)
+
+-- a stream behind its first marker, after at most n steps; each has a byte at least. What does not
+-- stay becomes zero
+unfoldable pub bared_from : ℕ → Bool → List ℕ → List ℕ
+bared_from n scanned [] = []
+bared_from zero scanned (b ∷ bytes) = b ∷ bytes
+bared_from (suc n) scanned (b ∷ bytes) =
+    let step = step_of scanned (b ∷ bytes) in
+    take step.kept (b ∷ bytes) ++ (replicate (step.len - step.kept) 0
+    ++ bared_from n step.scanned (drop (step.len - 1) bytes))
+
+-- bytes without the metadata of the JPEG stream that they are, if they are one
+abbrev pub bared : List ℕ → List ℕ
+bared bytes =
+    if is_jpeg bytes
+    then take 2 bytes ++ bared_from (length (drop 2 bytes)) false (drop 2 bytes) else bytes
+
+-- the same where the picture is stored in JPEG streams
+abbrev pub bared_if : Bool → List ℕ → List ℕ
+bared_if is_stream bytes = if is_stream then bared bytes else bytes
