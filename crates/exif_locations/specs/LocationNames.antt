@@ -1,7 +1,7 @@
 -- The names of XMP properties that are a location, without their prefixes, each with where it is
--- defined: Photoshop and XMP dynamic media (XMP Specification, Part 2), IPTC Core and Extension (IPTC
--- Photo Metadata Standard), Dublin Core (ISO 15836), PRISM (PRISM 3.0), Darwin Core (TDWG), GeoRSS
--- and GML (OGC), W3C Basic Geo, or the program that writes it.
+-- defined: Photoshop and XMP dynamic media (XMP Specification, Part 2), IPTC Core and Extension
+-- (IPTC Photo Metadata Standard), Dublin Core (ISO 15836), PRISM (PRISM 3.0), Darwin Core (TDWG),
+-- GeoRSS and GML (OGC), W3C Basic Geo, or the program that writes it.
 use Rattle.std.specs.Prelude.{ℕ, List, [], ◌∷◌, codes}
 
 -- the names, in the order of their bytes

@@ -3,7 +3,7 @@ use Rattle.std.specs.Prelude.{ℕ, ◌+◌, ◌*◌, ◌==◌, ◌&&◌, ◌||�
 use Rattle.std.specs.Str.{bytes_eq}
 use Rattle.exif_locations.specs.IptcNumbers.{character_sets, text_numbers, text_records}
 use Rattle.exif_locations.specs.TextNames.{no_identifiers, text_names}
-use Rattle.exif_locations.specs.Words.{begins_with_one, is_among}
+use Rattle.exif_locations.specs.Words.{begins_with, begins_with_one, is_among}
 
 -- whether bytes begin with an identifier of the picture, which may be any text (RDF/XML 1.1)
 abbrev pub begins_identifier : List ℕ → Bool
@@ -17,15 +17,27 @@ begins_remark [] = false
 begins_remark (b ∷ bytes) =
     (b == 33) || ((b == 63) && not (bytes_eq (take 8 bytes) (codes "xpacket ")))
 
+-- whether three bytes are the prefix of RDF, as nearly all packets have it
+abbrev pub is_rdf : ℕ → ℕ → ℕ → Bool
+is_rdf a b c = (a == 114) && (b == 100) && (c == 102)
+
+-- whether bytes begin with three of a prefix and the name of a description (MWG, Regions; XMP
+-- Basic; Camera Raw), which is not the element of that name that RDF has
+abbrev pub begins_described : List ℕ → Bool
+begins_described (a ∷ b ∷ c ∷ bytes) =
+    not (is_rdf a b c) && begins_with (codes ":Description") bytes
+begins_described rest = false
+
 -- whether bytes begin with the name of a property that may hold a location in a text
 unfoldable pub begins_name : List ℕ → Bool
 begins_name bytes = begins_with_one text_names bytes || begins_identifier bytes
 
--- an XMP packet has such a name behind the colon of a prefix, or a remark
+-- an XMP packet has such a name behind the colon of a prefix, a description, or a remark
 abbrev pub xmp_has_texts : List ℕ → Bool
 xmp_has_texts [] = false
 xmp_has_texts (b ∷ bytes) =
-    ((b == 58) && begins_name bytes) || ((b == 60) && begins_remark bytes) || xmp_has_texts bytes
+    ((b == 58) && begins_name bytes) || ((b == 60) && begins_remark bytes)
+    || begins_described (b ∷ bytes) || xmp_has_texts bytes
 
 -- whether a dataset with a number, behind which its length and value follow, holds more than a
 -- version (two bytes of number 0) or one of these character sets

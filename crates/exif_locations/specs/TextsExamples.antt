@@ -62,6 +62,24 @@ no_names : map (λ name. begins_name name)
 unfolding begins_name begins_with
 no_names = refl
 
+-- descriptions of a region and of a preset, and elements of RDF
+descriptions : map xmp_has_texts
+    (codes "<mwg-rs:Description>Basel" ∷ codes " crs:Description='Basel'" ∷ [])
+    ≡ replicate 2 true
+unfolding begins_name begins_with
+descriptions = refl
+
+no_descriptions : xmp_has_texts (codes "<rdf:Description><rdf:Description></rdf:Description>")
+    ≡ false
+unfolding begins_name begins_with
+no_descriptions = refl
+
+-- a subject of PDF, and settings of Exif
+subjects : map begins_name (codes "Subject='Basel'" ∷ codes "Subject>" ∷ codes "SubjectArea" ∷ [])
+    ≡ true ∷ true ∷ false ∷ []
+unfolding begins_name begins_with
+subjects = refl
+
 -- image metadata of PRISM, whatever their prefix is
 image_metadata : xmp_has_texts (codes "<a xmlns:p='http://prismstandard.org/namespaces/pmi/2.2/'/>")
     ≡ true

@@ -1,11 +1,11 @@
 //! Texts, keywords and encoded pictures, in which a location may be named.
 
 ghost use Rattle.std.specs.Prelude.{◌≡◌};
-ghost use Rattle.exif_locations.specs.Texts.{begins_identifier, begins_name, begins_remark, begins_text, holds_text, iptc_has_texts, xmp_has_texts};
+ghost use Rattle.exif_locations.specs.Texts.{begins_described, begins_identifier, begins_name, begins_remark, begins_text, holds_text, iptc_has_texts, is_rdf, xmp_has_texts};
 
 use crate::iptc_numbers::{character_sets, text_numbers, text_records};
 use crate::text_names::{no_identifiers, text_names};
-use crate::words::begins_with_one;
+use crate::words::{begins_with, begins_with_one};
 
 // Whether bytes begin with an identifier of the picture, which may be any text.
 fn begins_identifier(bytes: &[u8]) -> bool
@@ -25,6 +25,24 @@ fn begins_remark(bytes: &[u8]) -> bool
     }
 }
 
+// Whether three bytes are the prefix of RDF.
+fn is_rdf(a: u8, b: u8, c: u8) -> bool
+    ensures { result ≡ is_rdf a b c }
+{
+    a == b'r' && b == b'd' && c == b'f'
+}
+
+// Whether bytes begin with the end of a prefix and the name of a description, which is not that of
+// RDF.
+fn begins_described(bytes: &[u8]) -> bool
+    ensures { result ≡ begins_described bytes.now }
+{
+    match bytes {
+        [a, b, c, rest @ ..] => !is_rdf(*a, *b, *c) && begins_with(b":Description", rest),
+        _ => false,
+    }
+}
+
 // Whether bytes begin with the name of a property that may hold a location in a text.
 #[tactic(auto, unfolding(crate::specs::Texts::begins_name))]
 fn begins_name(bytes: &[u8]) -> bool
@@ -34,8 +52,9 @@ fn begins_name(bytes: &[u8]) -> bool
 }
 
 /// Whether an XMP packet has a property that holds what people write of a picture, keywords, names,
-/// an identifier or a picture: a name of one behind the colon of a prefix, wherever that is. So does
-/// one with a comment, character data, or an instruction that is not that of a packet.
+/// an identifier or a picture: a name of one behind the colon of a prefix, wherever that is. So
+/// does one with a `Description` behind another prefix than `rdf`, a comment, character data, or an
+/// instruction that is not that of a packet.
 pub fn xmp_has_texts(packet: &[u8]) -> bool
     ensures { result ≡ xmp_has_texts packet.now }
 {
@@ -45,6 +64,9 @@ pub fn xmp_has_texts(packet: &[u8]) -> bool
             return true;
         }
         if packet[i] == b'<' && begins_remark(rest) {
+            return true;
+        }
+        if begins_described(&packet[i..]) {
             return true;
         }
     }

@@ -3,9 +3,9 @@
 ghost use Rattle.std.specs.Prelude.{◌≡◌, map};
 ghost use Rattle.exif_locations.specs.Words.{begins_with, begins_with_one, ends_with, ends_with_one, is_one_of};
 
-// Whether bytes begin with a word.
+/// Whether bytes begin with a word.
 #[tactic(auto, unfolding(crate::specs::Words::begins_with))]
-fn begins_with(word: &[u8], bytes: &[u8]) -> bool
+pub fn begins_with(word: &[u8], bytes: &[u8]) -> bool
     ensures { result ≡ begins_with word.now bytes.now }
 {
     bytes.starts_with(word)
