@@ -15,11 +15,12 @@ use Rattle.exif_edit.specs.declared.edits.Edit.TheVariants.{EraseGps}
 use Rattle.exif_locations.specs.declared.unread.Unread.{Unread}
 use Rattle.exif_data_locations.specs.FieldRegions.{all_regions}
 use Rattle.exif_data_locations.specs.Regions.{regions_erased}
+use Rattle.exif_data_locations.specs.Streams.{stores_streams}
 use Rattle.exif_data_locations.specs.Texts.{texts_noted}
 use Rattle.exif_data_locations.specs.Wanted.{wanted}
 use Rattle.exif_data_locations.specs.declared.region.Region.{Region}
 use Rattle.exif_data_locations.specs.declared.why.Why.{Why}
-use Rattle.exif_data_locations.specs.declared.why.Why.TheVariants.{NotChanged, GpsShared, GpsNotFollowed, NotReadWhole, SubIfdsNotRead, MakerNote, Shared}
+use Rattle.exif_data_locations.specs.declared.why.Why.TheVariants.{NotChanged, GpsShared, GpsNotFollowed, NotReadWhole, SubIfdsNotRead, MakerNote, Shared, StreamsNotSearched}
 
 -- how many entries are read at most
 abbrev pub entry_limit : Option ℕ
@@ -58,13 +59,14 @@ abbrev pub has_number : ℕ → List Field → Bool
 has_number number fields = list_any (λ (f : Field). f.tag.1 == number) fields
 
 -- reasons, and those why what was not read, or is not judged, may be a location: faults, SubIFDs
--- (TIFF/EP), maker notes (Exif 2.32, 4.6.5) and texts
+-- (TIFF/EP), maker notes (Exif 2.32, 4.6.5), a picture in JPEG streams, and texts
 abbrev pub unread_noted : Read → List Why → List Why
 unread_noted read whys =
     texts_noted read.fields
+    (noted_if (stores_streams read.fields) StreamsNotSearched
     (noted_if (has_number 37500 read.fields) MakerNote
     (noted_if (has_number 330 read.fields) SubIfdsNotRead
-    (noted_if (not (length read.faults == 0)) NotReadWhole whys)))
+    (noted_if (not (length read.faults == 0)) NotReadWhole whys))))
 
 -- new data, if they are read as it is wanted, or the old ones
 abbrev pub if_read : Read → List EntryOffset → List ℕ → List ℕ × List Why → List ℕ × List Why

@@ -8,6 +8,7 @@ pub mod Promises
 pub mod Regions
 pub mod WhyTexts
 pub mod Resources
+pub mod Streams
 pub mod Texts
 pub mod ThumbnailExamples
 pub mod Thumbnails

@@ -14,6 +14,7 @@ why_text why.GpsNotFollowed = codes "GPS pointers are not followed"
 why_text why.NotReadWhole = codes "some of the data can't be read"
 why_text why.SubIfdsNotRead = codes "SubIFDs are not read"
 why_text why.MakerNote = codes "the maker note is not read"
+why_text why.StreamsNotSearched = codes "the JPEG streams of the picture are not searched"
 why_text (why.XmpNotRead tag fault) =
     codes "the XMP packet of tag " ++ (decimal tag
     ++ (codes " can't be read (" ++ (xmp_text fault ++ codes ")")))

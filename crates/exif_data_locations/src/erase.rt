@@ -10,6 +10,7 @@ ghost use Rattle.exif_edit_base.specs.Readings.{read_of};
 use crate::field::regions_of;
 use crate::gps::{erase_gps, unchanged};
 use crate::region::{Region, erase_regions};
+use crate::stream::stores_streams;
 use crate::text::note_texts;
 use crate::wanted::set_all_wanted;
 use crate::why::{Why, note_if};
@@ -46,6 +47,7 @@ fn note_unread(parsed: &Parsed, whys: &mut Vec<Why>) -> Result<(), AllocError>
     note_if(!parsed.faults.is_empty(), Why::NotReadWhole, whys)?;
     note_if(has_number(330, fields), Why::SubIfdsNotRead, whys)?;
     note_if(has_number(37500, fields), Why::MakerNote, whys)?;
+    note_if(stores_streams(fields), Why::StreamsNotSearched, whys)?;
     note_texts(fields, whys)
 }
 

@@ -24,6 +24,9 @@ pub enum Why {
     SubIfdsNotRead,
     /// There is a maker note, which is not read.
     MakerNote,
+    /// The picture is stored in JPEG streams, which can have metadata of their own and are not
+    /// searched.
+    StreamsNotSearched,
     /// The XMP packet of this tag can't be read, and is as it was.
     XmpNotRead(u16, xmp::Fault),
     /// The IPTC data of this tag can't be read, and are as they were.
@@ -70,6 +73,9 @@ impl fmt::Display for Why {
             Why::NotReadWhole => write!(f, "some of the data can't be read"),
             Why::SubIfdsNotRead => write!(f, "SubIFDs are not read"),
             Why::MakerNote => write!(f, "the maker note is not read"),
+            Why::StreamsNotSearched => {
+                write!(f, "the JPEG streams of the picture are not searched")
+            }
             Why::XmpNotRead(tag, fault) => {
                 write!(f, "the XMP packet of tag {tag} can't be read ({fault})")
             }
