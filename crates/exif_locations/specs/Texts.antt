@@ -24,8 +24,8 @@ is_rdf a b c = (a == 114) && (b == 100) && (c == 102)
 -- whether bytes begin with three of a prefix and the name of a description (MWG, Regions; XMP
 -- Basic; Camera Raw), which is not the element of that name that RDF has
 abbrev pub begins_described : List ℕ → Bool
-begins_described (a ∷ b ∷ c ∷ bytes) =
-    not (is_rdf a b c) && begins_with (codes ":Description") bytes
+begins_described (a ∷ b ∷ c ∷ d ∷ bytes) =
+    (d == 58) && not (is_rdf a b c) && begins_with (codes "Description") bytes
 begins_described rest = false
 
 -- whether bytes begin with the name of a property that may hold a location in a text

@@ -38,7 +38,9 @@ fn begins_described(bytes: &[u8]) -> bool
     ensures { result ≡ begins_described bytes.now }
 {
     match bytes {
-        [a, b, c, rest @ ..] => !is_rdf(*a, *b, *c) && begins_with(b":Description", rest),
+        [a, b, c, d, rest @ ..] => {
+            *d == b':' && !is_rdf(*a, *b, *c) && begins_with(b"Description", rest)
+        }
         _ => false,
     }
 }
