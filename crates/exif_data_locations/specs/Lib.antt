@@ -8,6 +8,8 @@ pub mod Promises
 pub mod Regions
 pub mod WhyTexts
 pub mod Resources
+pub mod TagNumbers
+pub mod TextExamples
 pub mod Texts
 pub mod ThumbnailExamples
 pub mod Thumbnails

@@ -12,6 +12,7 @@ pub mod laws;
 mod locations;
 mod region;
 mod resource;
+mod tags;
 mod text;
 mod thumbnail;
 mod version;
