@@ -1,6 +1,5 @@
 -- The regions of Exif data that fields have and that may say a location (TIFF 6.0, section 2).
 use Rattle.std.specs.Prelude.{ℕ, ◌+◌, ◌==◌, nat_lt, List, [], ◌∷◌, ◌++◌, length, take, drop, Option, None, Some, if◌then◌else◌}
-use Rattle.std.specs.List.{list_any}
 use Rattle.exif_base.specs.Bytes.{Reading, number_at}
 use Rattle.exif_table.specs.declared.context.Context.TheVariants.{Tiff, Exif, Gps, Interop}
 use Rattle.exif_text.specs.FieldTypes.{type_of}
@@ -10,18 +9,15 @@ use Rattle.exif_types.specs.declared.tag.Tag.{Tag}
 use Rattle.exif_tiff.specs.declared.offset.EntryOffset.{EntryOffset}
 use Rattle.exif_edit_base.specs.Spans.{nowhere, value_span}
 use Rattle.exif_edit_base.specs.declared.patch.Span.{Span}
+use Rattle.exif_locations.specs.Words.{is_among}
 use Rattle.exif_data_locations.specs.Resources.{resource_regions}
+use Rattle.exif_data_locations.specs.TagNumbers.{geo_tiff_tags}
 use Rattle.exif_data_locations.specs.declared.field.Holds.{Holds}
 use Rattle.exif_data_locations.specs.declared.field.Holds.TheVariants.{One, Resources}
 use Rattle.exif_data_locations.specs.declared.region.Region.{Region}
 use Rattle.exif_data_locations.specs.declared.region.What.{What}
 use Rattle.exif_data_locations.specs.declared.region.What.TheVariants.{Xmp, Iptc, GeoTiff, Left}
 use Rattle.exif_data_locations.specs.declared.why.Why.TheVariants.{TypeNotKnown}
-
--- the tags ModelPixelScale, ModelTiepoint, ModelTransformation, GeoKeyDirectory, GeoDoubleParams
--- and GeoAsciiParams (OGC GeoTIFF 1.1)
-abbrev pub geo_tiff_tags : List ℕ
-geo_tiff_tags = 33550 ∷ 33922 ∷ 34264 ∷ 34735 ∷ 34736 ∷ 34737 ∷ []
 
 -- what the value of a tag with this number holds: an XMP packet (XMP part 3, 1.1.1), IPTC data, the
 -- resources of Photoshop (Photoshop File Formats, "Image Resource Blocks") or GeoTIFF
@@ -30,7 +26,7 @@ held_by number =
     if number == 700 then Some (One Xmp) else
     (if number == 33723 then Some (One Iptc) else
     (if number == 34377 then Some Resources else
-    (if list_any (λ n. number == n) geo_tiff_tags then Some (One GeoTiff) else None)))
+    (if is_among geo_tiff_tags number then Some (One GeoTiff) else None)))
 
 -- the same of a tag: those of the chain
 abbrev pub held_in : Tag → Option Holds

@@ -9,6 +9,8 @@ pub mod Regions
 pub mod WhyTexts
 pub mod Resources
 pub mod Streams
+pub mod TagNumbers
+pub mod TextExamples
 pub mod Texts
 pub mod ThumbnailExamples
 pub mod Thumbnails

@@ -1,14 +1,16 @@
--- Texts of Exif data, in which a location may be named (Exif 2.32, 4.6.4 C and 4.6.5 D; the tags
--- that Windows writes).
-use Rattle.std.specs.Prelude.{ℕ, ◌==◌, ◌&&◌, ◌||◌, not, nat_le, Bool, true, false, List, [], ◌∷◌, ◌++◌, drop, if◌then◌else◌}
+-- Texts and other data in Exif data, in which a location may be named.
+use Rattle.std.specs.Prelude.{ℕ, ◌==◌, ◌||◌, not, Bool, true, false, List, [], ◌∷◌, drop, Option, Some, None, if◌then◌else◌}
 use Rattle.std.specs.List.{list_any}
-use Rattle.exif_table.specs.declared.context.Context.{Context}
-use Rattle.exif_table.specs.declared.context.Context.TheVariants as context
+use Rattle.exif_table.specs.declared.context.Context.TheVariants.{Tiff, Exif, Gps, Interop}
 use Rattle.exif_types.specs.declared.field.Field.{Field}
+use Rattle.exif_types.specs.declared.tag.Tag.{Tag}
 use Rattle.exif_types.specs.declared.value.Value.{Value}
 use Rattle.exif_types.specs.declared.value.Value.TheVariants as value
+use Rattle.exif_locations.specs.Words.{begins_with_one, is_among}
+use Rattle.exif_data_locations.specs.Regions.{noted}
+use Rattle.exif_data_locations.specs.TagNumbers.{character_codes, other_tags, text_tags}
 use Rattle.exif_data_locations.specs.declared.why.Why.{Why}
-use Rattle.exif_data_locations.specs.declared.why.Why.TheVariants.{Text}
+use Rattle.exif_data_locations.specs.declared.why.Why.TheVariants.{NotSearched, Text}
 
 -- whether a byte shows something: it is neither zero nor a space
 abbrev pub is_shown : ℕ → Bool
@@ -23,31 +25,46 @@ abbrev pub show_one : List (List ℕ) → Bool
 show_one [] = false
 show_one (text ∷ texts) = show text || show_one texts
 
--- whether a value shows something: a comment does so behind its character code
+-- whether a comment shows something, behind its character code if it has one: eight zeros show
+-- nothing
+abbrev pub shows_comment : List ℕ → Bool
+shows_comment bytes =
+    show (if begins_with_one character_codes bytes then drop 8 bytes else bytes)
+
+-- whether a value shows something
 abbrev pub shows : Value → Bool
 shows (value.Ascii texts) = show_one texts
 shows (value.Byte ns) = show ns
-shows (value.Undefined bytes offset) = show (drop 8 bytes)
+shows (value.Undefined bytes offset) = shows_comment bytes
 shows v = true
 
--- whether a tag of the primary directory is of a text: ImageDescription, and the title, comment,
--- author, keywords and subject of Windows
-abbrev pub is_text_number : ℕ → Bool
-is_text_number number = (number == 270) || (nat_le 40091 number && nat_le number 40095)
+-- whether a tag of the chain or of the Exif directory has one of these numbers: programs write some
+-- texts into either
+abbrev pub is_tag_among : List ℕ → Tag → Bool
+is_tag_among numbers tag = elim tag.0 [
+  | Tiff ↦ is_among numbers tag.1
+  | Exif ↦ is_among numbers tag.1
+  | Gps ↦ false
+  | Interop ↦ false
+]
 
--- whether a tag is of a text; of the Exif directory UserComment is
-abbrev pub is_text_of : Context → ℕ → Bool
-is_text_of context.Tiff number = is_text_number number
-is_text_of context.Exif number = number == 37510
-is_text_of context.Gps number = false
-is_text_of context.Interop number = false
+-- why a field with a value that shows something may name a location: a text is not judged, and data
+-- of another form are not searched
+abbrev pub shown_why : Tag → Option Why
+shown_why tag =
+    if is_tag_among text_tags tag then Some (Text tag) else
+    (if is_tag_among other_tags tag then Some (NotSearched tag) else None)
 
--- whether a field is a text that shows something
-abbrev pub is_text : Field → Bool
-is_text f = is_text_of f.tag.0 f.tag.1 && shows f.value
+-- a reason, if a value shows something
+abbrev pub if_shown : Value → Option Why → Option Why
+if_shown v None = None
+if_shown v (Some why) = if shows v then Some why else None
+
+-- why a field may name a location
+abbrev pub field_why : Field → Option Why
+field_why f = if_shown f.value (shown_why f.tag)
 
 -- reasons, and one for each such field
 abbrev pub texts_noted : List Field → List Why → List Why
 texts_noted [] whys = whys
-texts_noted (f ∷ fields) whys =
-    texts_noted fields (if is_text f then whys ++ Text f.tag ∷ [] else whys)
+texts_noted (f ∷ fields) whys = texts_noted fields (noted whys (field_why f))

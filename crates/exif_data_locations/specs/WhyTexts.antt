@@ -26,6 +26,7 @@ why_text why.ExifResource = codes "a resource of Photoshop holds Exif data"
 why_text why.OtherResource = codes "a resource of Photoshop is not searched"
 why_text (why.Texts tag) = codes "texts of tag " ++ (decimal tag ++ codes " are not judged")
 why_text (why.Text tag) = codes "the text of " ++ (tag_text tag ++ codes " is not judged")
+why_text (why.NotSearched tag) = codes "the value of " ++ (tag_text tag ++ codes " is not searched")
 why_text (why.TypeNotKnown tag) =
     codes "the type of tag " ++ (decimal tag ++ codes " is not known")
 why_text why.Thumbnail = codes "the thumbnail may hold a location"

@@ -8,6 +8,7 @@ ghost use Rattle.exif_edit_base.specs.Spans.{value_span};
 
 use crate::region::{Region, What};
 use crate::resource::add_resources;
+use crate::tags::geo_tiff_tags;
 use crate::why::Why;
 use exif_base::Order;
 use exif_edit_base::EntryOffset;
@@ -34,7 +35,7 @@ fn held_by(number: u16) -> Option<Holds>
         700 => Some(Holds::One(What::Xmp)),
         33723 => Some(Holds::One(What::Iptc)),
         34377 => Some(Holds::Resources),
-        33550 | 33922 | 34264 | 34735 | 34736 | 34737 => Some(Holds::One(What::GeoTiff)),
+        _ if geo_tiff_tags().contains(&number) => Some(Holds::One(What::GeoTiff)),
         _ => None,
     }
 }

@@ -13,6 +13,7 @@ mod locations;
 mod region;
 mod resource;
 mod stream;
+mod tags;
 mod text;
 mod thumbnail;
 mod version;

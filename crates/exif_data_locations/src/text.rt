@@ -1,10 +1,12 @@
-//! Texts of Exif data, in which a location may be named.
+//! Texts and other data in Exif data, in which a location may be named.
 
 ghost use Rattle.std.specs.Prelude.{◌≡◌, OnOk};
-ghost use Rattle.exif_data_locations.specs.Texts.{is_shown, is_text, is_text_number, is_text_of, show, show_one, shows, texts_noted};
+ghost use Rattle.exif_data_locations.specs.Texts.{field_why, is_shown, is_tag_among, show, show_one, shown_why, shows, shows_comment, texts_noted};
 
+use crate::tags::{character_codes, other_tags, text_tags};
 use crate::why::Why;
 use exif_base::Items;
+use exif_locations::words::begins_with_one;
 use exif_types::{Context, Field, Tag, Value};
 use std::alloc::AllocError;
 
@@ -34,53 +36,69 @@ fn show_one(texts: &[Items<u8>]) -> bool
     false
 }
 
-// Whether a value shows something: a comment does so behind its character code.
+// Whether a comment shows something, behind its character code if it has one.
+fn shows_comment(bytes: &[u8]) -> bool
+    ensures { result ≡ shows_comment bytes.now }
+{
+    if !begins_with_one(character_codes(), bytes) {
+        return show(bytes);
+    }
+    match bytes.get(8..) {
+        Some(comment) => show(comment),
+        None => false,
+    }
+}
+
+// Whether a value shows something.
 fn shows(value: &Value) -> bool
     ensures { result ≡ shows value.now }
 {
     match value {
         Value::Ascii(texts) => show_one(texts),
         Value::Byte(numbers) => show(numbers),
-        Value::Undefined(bytes, _) => match bytes.get(8..) {
-            Some(comment) => show(comment),
-            None => false,
-        },
+        Value::Undefined(bytes, _) => shows_comment(bytes),
         _ => true,
     }
 }
 
-// Whether a tag of the primary directory is of a text.
-fn is_text_number(number: u16) -> bool
-    ensures { result ≡ is_text_number number }
-{
-    number == 270 || (40091 <= number && number <= 40095)
-}
-
-// Whether a tag is of a text.
-fn is_text_tag(tag: Tag) -> bool
-    ensures { result ≡ is_text_of tag.0 tag.1 }
+// Whether a tag of the chain or of the Exif directory has one of these numbers.
+fn is_tag_among(numbers: &[u16], tag: Tag) -> bool
+    ensures { result ≡ is_tag_among numbers.now tag }
 {
     match tag.0 {
-        Context::Tiff => is_text_number(tag.1),
-        Context::Exif => tag.1 == 37510,
+        Context::Tiff | Context::Exif => numbers.contains(&tag.1),
         Context::Gps | Context::Interop => false,
     }
 }
 
-// Whether a field is a text that shows something.
-fn is_text(field: &Field) -> bool
-    ensures { result ≡ is_text field.now }
+// Why a field with a value that shows something may name a location.
+fn shown_why(tag: Tag) -> Option<Why>
+    ensures { result ≡ shown_why tag }
 {
-    is_text_tag(field.tag) && shows(&field.value)
+    if is_tag_among(text_tags(), tag) {
+        Some(Why::Text(tag))
+    } else if is_tag_among(other_tags(), tag) {
+        Some(Why::NotSearched(tag))
+    } else {
+        None
+    }
 }
 
-/// Notes each field that is a text and shows something.
+// Why a field may name a location.
+fn field_why(field: &Field) -> Option<Why>
+    ensures { result ≡ field_why field.now }
+{
+    let why = shown_why(field.tag)?;
+    if shows(&field.value) { Some(why) } else { None }
+}
+
+/// Notes each field that shows something and is a text or holds data of its own.
 pub fn note_texts(fields: &[Field], whys: &mut Vec<Why>) -> Result<(), AllocError>
     ensures { OnOk result (whys.new.items ≡ texts_noted fields.now whys.old.items) }
 {
     for field in fields {
-        if is_text(field) {
-            whys.push(Why::Text(field.tag))?;
+        if let Some(why) = field_why(field) {
+            whys.push(why)?;
         }
     }
     Ok(())

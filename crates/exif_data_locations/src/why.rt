@@ -41,6 +41,8 @@ pub enum Why {
     Texts(u16),
     /// This field is a text.
     Text(Tag),
+    /// The value of this field holds data that are not searched.
+    NotSearched(Tag),
     /// The value of this tag has a type that is not known.
     TypeNotKnown(u16),
     /// The thumbnail has metadata of its own that may say a location.
@@ -87,6 +89,7 @@ impl fmt::Display for Why {
             Why::OtherResource => write!(f, "a resource of Photoshop is not searched"),
             Why::Texts(tag) => write!(f, "texts of tag {tag} are not judged"),
             Why::Text(tag) => write!(f, "the text of {tag} is not judged"),
+            Why::NotSearched(tag) => write!(f, "the value of {tag} is not searched"),
             Why::TypeNotKnown(tag) => write!(f, "the type of tag {tag} is not known"),
             Why::Thumbnail => write!(f, "the thumbnail may hold a location"),
             Why::Shared => write!(
