@@ -74,6 +74,24 @@ described_items : blanked Described (listed (codes "Me")) ≡ listed (codes "  "
 unfolding blanked bared_from head_of box_header
 described_items = refl
 
+-- bits for each channel, with a byte behind them
+abbrev channels : ℕ → List ℕ
+channels more =
+    0 ∷ 0 ∷ 0 ∷ 33 ∷ codes "iprp" ++ 0 ∷ 0 ∷ 0 ∷ 25 ∷ codes "ipco"
+    ++ 0 ∷ 0 ∷ 0 ∷ 17 ∷ codes "pixi" ++ 0 ∷ 0 ∷ 0 ∷ 0 ∷ 3 ∷ 8 ∷ 8 ∷ 8 ∷ more ∷ []
+
+described_channels : blanked Described (channels 9) ≡ channels 0
+unfolding blanked bared_from head_of box_header
+described_channels = refl
+
+-- the number of the first picture, with a byte behind it
+abbrev first : ℕ → List ℕ
+first more = 0 ∷ 0 ∷ 0 ∷ 15 ∷ codes "pitm" ++ 0 ∷ 0 ∷ 0 ∷ 0 ∷ 0 ∷ 1 ∷ more ∷ []
+
+described_first : blanked Described (first 9) ≡ first 0
+unfolding blanked bared_from head_of box_header
+described_first = refl
+
 -- groups, of which one is not known
 abbrev groups : List ℕ → List ℕ
 groups content =

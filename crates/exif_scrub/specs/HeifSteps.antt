@@ -1,6 +1,6 @@
 -- What stays of the boxes that describe the pictures of a HEIF file (ISO/IEC 14496-12, 8.4.3,
 -- 8.11.6, 8.11.14, 8.18; ISO/IEC 23008-12, 6.5, 9.3; AV1 Image File Format, 2.3; ISO/IEC 14496-15).
-use Rattle.std.specs.Prelude.{ℕ, ◌+◌, ◌-◌, List, length, take, codes, slice_index, nat_lt, Bool, ◌||◌, ◌==◌, Option, Some, None, if◌then◌else◌}
+use Rattle.std.specs.Prelude.{ℕ, ◌+◌, ◌-◌, List, [], ◌∷◌, length, take, drop, codes, slice_index, nat_lt, Bool, ◌||◌, ◌==◌, Option, Some, None, if◌then◌else◌}
 use Rattle.std.specs.Str.{bytes_eq}
 use Rattle.exif_inventory.specs.BoxHeaders.{head_of, name_of}
 use Rattle.exif_inventory.specs.declared.boxes.Head.{Head}
@@ -29,7 +29,7 @@ is_coding name =
 -- whether one says what its samples and colours are
 abbrev pub is_color : List ℕ → Bool
 is_color name =
-    bytes_eq name (codes "colr") || bytes_eq name (codes "pixi")
+    bytes_eq name (codes "colr")
     || bytes_eq name (codes "cclv") || bytes_eq name (codes "ndwt")
     || bytes_eq name (codes "reve") || bytes_eq name (codes "uncC")
     || bytes_eq name (codes "cmpd") || bytes_eq name (codes "cmpC")
@@ -61,10 +61,19 @@ fields_len name =
     if bytes_eq name (codes "mdcv") then 24 else
     if bytes_eq name (codes "amve") then 8 else 0
 
+-- how many bytes stay of a list of bits for each channel without flags: its header, a version and
+-- flags, a count, and as many bytes
+abbrev pub channels_kept : List ℕ → Head → ℕ
+channels_kept bytes head =
+    if nat_lt head.len (head.front + 5) then head.len else
+    if bytes_eq (take 4 (drop head.front bytes)) (0 ∷ 0 ∷ 0 ∷ 0 ∷ [])
+    then head.front + 5 + slice_index bytes (head.front + 4) else head.len
+
 -- how many bytes of a property stay: all, its header and its fields, or its header alone
 abbrev pub property_kept : List ℕ → Head → ℕ
-property_kept name head =
-    if is_property name then head.len else head.front + fields_len name
+property_kept bytes head =
+    if bytes_eq (name_of bytes) (codes "pixi") then channels_kept bytes head else
+    if is_property (name_of bytes) then head.len else head.front + fields_len (name_of bytes)
 
 -- whether a group of items shows which of them to show, or which belong to two eyes
 abbrev pub is_group : List ℕ → Bool
@@ -86,7 +95,7 @@ list_step bytes = list_by bytes (head_of bytes)
 abbrev pub property_by : ℕ → List ℕ → Option Head → Step
 property_by space bytes None = front 0 space Boxes
 property_by space bytes (Some head) =
-    front (property_kept (name_of bytes) head) head.len (Properties (space - head.len))
+    front (property_kept bytes head) head.len (Properties (space - head.len))
 
 abbrev pub property_step : ℕ → List ℕ → Step
 property_step space bytes =
@@ -132,20 +141,23 @@ abbrev pub name_step : ℕ → List ℕ → Step
 name_step space bytes =
     if space == 0 then entry_step bytes else letter_step space (slice_index bytes 0)
 
--- the list of items, up to the first entry
-abbrev pub items_step : List ℕ → Head → Step
-items_step bytes head =
+-- a version and flags, and a number whose width the version says: the count of the items, or the
+-- number of one
+abbrev pub number_step : List ℕ → Head → Place → Step
+number_step bytes head next =
     if nat_lt head.front head.len
-    then whole (head.front + 4 + count_width (slice_index bytes head.front)) Entries
+    then whole (head.front + 4 + count_width (slice_index bytes head.front)) next
     else whole (length bytes) Rest
 
--- a box that describes pictures: of the handler the name becomes zeros
+-- a box that describes pictures: the list of items up to the first entry; of the handler the name
+-- becomes zeros, and what is behind the number of the first picture
 abbrev pub box_by : List ℕ → Option Head → Step
 box_by bytes None = whole (length bytes) Rest
 box_by bytes (Some head) =
     if bytes_eq (name_of bytes) (codes "iprp") then whole head.front Boxes else
     if bytes_eq (name_of bytes) (codes "grpl") then whole head.front Groups else
-    if bytes_eq (name_of bytes) (codes "iinf") then items_step bytes head else
+    if bytes_eq (name_of bytes) (codes "iinf") then number_step bytes head Entries else
+    if bytes_eq (name_of bytes) (codes "pitm") then number_step bytes head Zeros else
     if bytes_eq (name_of bytes) (codes "hdlr") then whole (head.front + 12) Zeros
     else whole (length bytes) Rest
 

@@ -3,7 +3,7 @@
 ghost use Rattle.std.specs.Prelude.{◌≡◌, ◌<◌, ◌≤◌, length, IfSome};
 ghost use Rattle.exif_inventory.specs.BoxHeaders.{head_of};
 ghost use Rattle.exif_inventory_heif.specs.Items.{count_width, item_width};
-ghost use Rattle.exif_scrub.specs.HeifSteps.{box_by, box_step, entry_by, entry_step, fields_len, group_by, group_step, is_coding, is_color, is_group, is_property, is_relation, items_step, letter_step, list_by, list_step, name_step, named_entry, property_by, property_kept, property_step, wide_entry};
+ghost use Rattle.exif_scrub.specs.HeifSteps.{box_by, box_step, channels_kept, entry_by, entry_step, fields_len, group_by, group_step, is_coding, is_color, is_group, is_property, is_relation, letter_step, list_by, list_step, name_step, named_entry, number_step, property_by, property_kept, property_step, wide_entry};
 
 use crate::bytes::front_of;
 use crate::steps::{Place, Step, front, whole};
@@ -29,7 +29,6 @@ fn is_color(name: &[u8]) -> bool
     ensures { result ≡ is_color name.now }
 {
     name == b"colr".as_slice()
-        || name == b"pixi".as_slice()
         || name == b"cclv".as_slice()
         || name == b"ndwt".as_slice()
         || name == b"reve".as_slice()
@@ -92,12 +91,33 @@ fn fields_len(name: &[u8]) -> usize
     }
 }
 
-// How many bytes of a property stay: all, its header and its fields, or its header alone.
-fn property_kept(name: &[u8], head: Head) -> usize
-    requires { head.front ≤ 16 }
-    ensures { result ≡ property_kept name.now head }
+// How many bytes stay of a list of bits for each channel without flags.
+fn channels_kept(bytes: &[u8], head: Head) -> usize
+    requires front { head.front ≤ 16 }
+    requires within { head.len ≤ length bytes.now }
+    ensures { result ≡ channels_kept bytes.now head }
 {
-    if is_property(name) {
+    if head.len < head.front + 5 {
+        return head.len;
+    }
+    if bytes[head.front..head.front + 4] == [0, 0, 0, 0] {
+        head.front + 5 + usize::from(bytes[head.front + 4])
+    } else {
+        head.len
+    }
+}
+
+// How many bytes of a property stay: all, its header and its fields, or its header alone.
+fn property_kept(bytes: &[u8], head: Head) -> usize
+    requires least { 8 ≤ length bytes.now }
+    requires front { head.front ≤ 16 }
+    requires within { head.len ≤ length bytes.now }
+    ensures { result ≡ property_kept bytes.now head }
+{
+    let name = name_of(bytes);
+    if name == b"pixi".as_slice() {
+        channels_kept(bytes, head)
+    } else if is_property(name) {
         head.len
     } else {
         head.front + fields_len(name)
@@ -135,7 +155,7 @@ fn property_in(space: usize, bytes: &[u8]) -> Step
     let Some(head) = head_of(bytes) else {
         return front(0, space, Place::Boxes);
     };
-    let kept = property_kept(name_of(bytes), head);
+    let kept = property_kept(bytes, head);
     let next = Place::Properties(space.saturating_sub(head.len));
     front(kept, head.len, next)
 }
@@ -254,23 +274,22 @@ fn count_width(version: u8) -> usize
     if version == 0 { 2 } else { 4 }
 }
 
-// The list of items, up to the first entry.
-fn items_step(bytes: &[u8], head: Head) -> Step
+// A version and flags, and a number whose width the version says: the count of the items, or the
+// number of one.
+fn number_step(bytes: &[u8], head: Head, next: Place) -> Step
     requires front { head.front ≤ 16 }
     requires within { head.len ≤ length bytes.now }
-    ensures { result ≡ items_step bytes.now head }
+    ensures { result ≡ number_step bytes.now head next }
 {
     if head.front < head.len {
-        whole(
-            head.front + 4 + count_width(bytes[head.front]),
-            Place::Entries,
-        )
+        whole(head.front + 4 + count_width(bytes[head.front]), next)
     } else {
         whole(bytes.len(), Place::Rest)
     }
 }
 
-/// A box that describes pictures. Of the handler the name becomes zeros.
+/// A box that describes pictures. Of the handler the name becomes zeros, and what is behind the
+/// number of the first picture.
 pub fn box_step(bytes: &[u8]) -> Step
     ensures { result ≡ box_step bytes.now }
 {
@@ -283,7 +302,9 @@ pub fn box_step(bytes: &[u8]) -> Step
     } else if name == b"grpl".as_slice() {
         whole(head.front, Place::Groups)
     } else if name == b"iinf".as_slice() {
-        items_step(bytes, head)
+        number_step(bytes, head, Place::Entries)
+    } else if name == b"pitm".as_slice() {
+        number_step(bytes, head, Place::Zeros)
     } else if name == b"hdlr".as_slice() {
         whole(head.front + 12, Place::Zeros)
     } else {
