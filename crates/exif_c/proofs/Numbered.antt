@@ -7,7 +7,7 @@ use Rattle.exif_edit_base.specs.Causes.{no_field, no_directory, full_directory, 
 use Rattle.exif_edit_base.specs.Causes as cause
 use Rattle.exif_edit_base.specs.declared.error.Error.TheVariants as edit
 use Rattle.exif_change.specs.Changed.{Change}
-use Rattle.exif_change.specs.Refusals.{Why, Fails, editing, heif_fault, no_date, no_thumbnail, not_of_its_type, out_of_range, reading, second_exif, tiff_fault, unknown_format}
+use Rattle.exif_change.specs.Refusals.{Reason, Fails, editing, heif_fault, no_date, no_thumbnail, not_of_its_type, out_of_range, reading, second_exif, tiff_fault, unknown_format}
 use Rattle.exif_change.specs.Refusals as why
 use Rattle.exif_change.specs.declared.refusal.Refusal.{Refusal}
 use Rattle.exif_change.specs.declared.refusal.Refusal.TheVariants as change
@@ -19,15 +19,15 @@ use Rattle.exif_c.specs.declared.status.Status.{Status}
 use Rattle.exif_c.specs.declared.status.Status.TheVariants as status
 
 -- a status is that of why the answer is a refusal, or memory ran out
-abbrev pub IsNumbered : {Y : Type 0} → Status → Result Y Why → Type 0
+abbrev pub IsNumbered : {Y : Type 0} → Status → Result Y Reason → Type 0
 IsNumbered s answer =
-    ((w : Why) × (answer ≡ Err w) × (s ≡ why_status w)) ⊎ (s ≡ status.OutOfMemory)
+    ((w : Reason) × (answer ≡ Err w) × (s ≡ why_status w)) ⊎ (s ≡ status.OutOfMemory)
 
 -- an error of an edit that is no refusal of it is out of memory
 memory_alone : {A : Type 0} (e : Failure) → edit.Container e ≡ edit.OutOfMemory → A
 memory_alone e h = cc
 
-pub numbered : {Y : Type 0} (e : Refusal) (answer : Result Y Why) → Fails e answer
+pub numbered : {Y : Type 0} (e : Refusal) (answer : Result Y Reason) → Fails e answer
     → IsNumbered (refusal_status e) answer
 numbered (change.Reading (failure.InvalidFormat t)) answer h = inl (reading (invalid_format t.now), h, refl)
 numbered (change.Reading (failure.NotFound t)) answer h = inl (reading (not_found t.now), h, refl)
@@ -69,32 +69,32 @@ numbered change.NoDate answer h = inl (no_date, h, refl)
 numbered change.NoThumbnail answer h = inl (no_thumbnail, h, refl)
 numbered change.OutOfMemory answer h = inr refl
 
-ok_err : {Y A : Type 0} (y : Y) (w : Why) → ◌≡◌ {A = Result Y Why} (Ok y) (Err w) → A
+ok_err : {Y A : Type 0} (y : Y) (w : Reason) → ◌≡◌ {A = Result Y Reason} (Ok y) (Err w) → A
 ok_err y w h = cc
 
-err_same : {Y : Type 0} (v w : Why) → ◌≡◌ {A = Result Y Why} (Err v) (Err w) → v ≡ w
+err_same : {Y : Type 0} (v w : Reason) → ◌≡◌ {A = Result Y Reason} (Err v) (Err w) → v ≡ w
 err_same v w h = cc
 
 -- a refusal ends a call by its number
-pub ends_refused : (e : Refusal) (n : ℕ) (old new : List ℕ) (answer : Result (List ℕ) Why)
+pub ends_refused : (e : Refusal) (n : ℕ) (old new : List ℕ) (answer : Result (List ℕ) Reason)
     → n ≡ number_of (refusal_status e) → new ≡ old → Fails e answer → EndsBy n old new answer
 ends_refused e n old new answer is same h = by answer (numbered e answer h)
   where
-    by : (a : Result (List ℕ) Why) → IsNumbered (refusal_status e) a → EndsBy n old new a
+    by : (a : Result (List ℕ) Reason) → IsNumbered (refusal_status e) a → EndsBy n old new a
     by (Ok made) (inl x) = ok_err made x.0 x.1
     by (Ok made) (inr o) = inr (is ∙ ap number_of o, same)
     by (Err w) (inl x) = (same, inl (is ∙ ap number_of (x.2 ∙ ap why_status (sym (err_same {Y = List ℕ} w x.0 x.1)))))
     by (Err w) (inr o) = (same, inr (is ∙ ap number_of o))
 
 -- a refusal puts nothing into a buffer
-pub puts_refused : (e : Refusal) (a : Answer) (out : List ℕ) (answer : Result Change Why)
+pub puts_refused : (e : Refusal) (a : Answer) (out : List ℕ) (answer : Result Change Reason)
     → GivesNothing (number_of (refusal_status e)) a → Fails e answer → Puts a out out answer
 puts_refused e a out answer g h = by answer (numbered e answer h)
   where
     nothing : (s : Status) → refusal_status e ≡ s → GivesNothing (number_of s) a
     nothing s is = subst (λ (t : Status). GivesNothing (number_of t) a) is g
 
-    by : (r : Result Change Why) → IsNumbered (refusal_status e) r → Puts a out out r
+    by : (r : Result Change Reason) → IsNumbered (refusal_status e) r → Puts a out out r
     by (Ok made) (inl x) = ok_err made x.0 x.1
     by (Ok made) (inr o) = inr (nothing status.OutOfMemory o, refl)
     by (Err w) (inl x) = (refl, inl (nothing (why_status w) (x.2 ∙ ap why_status (sym (err_same {Y = Change} w x.0 x.1)))))

@@ -8,7 +8,7 @@ use Rattle.exif_formats.specs.Pictures.{ReadsPicture}
 use Rattle.exif_json.specs.Answers.{IsJsonOf}
 use Rattle.exif_edit_base.specs.Causes.{Cause}
 use Rattle.exif_change.specs.Changed.{Change}
-use Rattle.exif_change.specs.Refusals.{Why}
+use Rattle.exif_change.specs.Refusals.{Reason}
 use Rattle.exif_change.specs.Setting.{set_here}
 use Rattle.exif_c.specs.Buffers.{Gives, GivesNothing}
 use Rattle.exif_c.specs.Statuses.{cause_status, error_status, number_of, undone_status, why_status}
@@ -46,7 +46,7 @@ IsRead lenient limit file old new answer =
 
 -- a changed file is in the buffer, which its status says, or memory ran out and the buffer is as it
 -- was; a refusal tells its number
-abbrev pub Puts : Answer → List ℕ → List ℕ → Result Change Why → Type 0
+abbrev pub Puts : Answer → List ℕ → List ℕ → Result Change Reason → Type 0
 Puts answer old new (Ok change) =
     Gives (number_of (undone_status change.undone)) change.file old new answer
     ⊎ (GivesNothing (number_of status.OutOfMemory) answer × (new ≡ old))
@@ -66,7 +66,7 @@ Ends number old new (Err cause) =
 
 -- bytes are changed as the answer says, which the status tells, or memory ran out and they are as
 -- they were
-abbrev pub EndsBy : ℕ → List ℕ → List ℕ → Result (List ℕ) Why → Type 0
+abbrev pub EndsBy : ℕ → List ℕ → List ℕ → Result (List ℕ) Reason → Type 0
 EndsBy number old new (Ok changed) =
     ((number ≡ 0) × (new ≡ changed)) ⊎ ((number ≡ number_of status.OutOfMemory) × (new ≡ old))
 EndsBy number old new (Err why) =

@@ -9,7 +9,7 @@ use Rattle.exif_check.specs.declared.checked.Checked.{Checked}
 use Rattle.exif_check.specs.declared.checked.Location.{Location}
 use Rattle.exif_check.specs.declared.checked.Location.TheVariants.{Absent, Present, Unknown}
 use Rattle.exif_privacy.specs.Erasing.{erased}
-use Rattle.exif_privacy.specs.declared.stays.Stays.{Stays}
+use Rattle.exif_privacy.specs.declared.remaining.Remaining.{Remaining}
 use Rattle.exif_locations.specs.declared.unread.Unread.{Unread}
 use Rattle.exif_locations.specs.declared.unread.Unread.TheVariants.{Blank, Keep}
 use Rattle.exif_c.specs.Buffers.{Gives, GivesNothing}
@@ -43,12 +43,12 @@ abbrev pub Checks : Answer → List ℕ → List ℕ → List ℕ → Type 0
 Checks answer file old new = ChecksParts answer file old new (checked file)
 
 -- the status of a file with these parts that may still hold a location
-abbrev pub stays_status : List Stays → Status
+abbrev pub stays_status : List Remaining → Status
 stays_status [] = status.Well
 stays_status (it ∷ stays) = status.LocationPossible
 
 -- a file whose locations were erased, and its status, if its format is known
-abbrev pub erased_as : List ℕ × Option (List Stays) → Option (List ℕ × Status)
+abbrev pub erased_as : List ℕ × Option (List Remaining) → Option (List ℕ × Status)
 erased_as (new, None) = None
 erased_as (new, Some stays) = Some (new, stays_status stays)
 

@@ -8,7 +8,7 @@ use Rattle.exif_edit_base.specs.Causes.{Cause, no_field, no_directory, full_dire
 use Rattle.exif_edit_base.specs.declared.error.Error.{Error}
 use Rattle.exif_edit_base.specs.declared.error.Error.TheVariants as edit
 use Rattle.exif_change.specs.Changed.{Undone}
-use Rattle.exif_change.specs.Refusals.{Why, editing, heif_fault, no_date, no_thumbnail, not_of_its_type, out_of_range, reading, second_exif, tiff_fault, unknown_format}
+use Rattle.exif_change.specs.Refusals.{Reason, editing, heif_fault, no_date, no_thumbnail, not_of_its_type, out_of_range, reading, second_exif, tiff_fault, unknown_format}
 use Rattle.exif_change.specs.Refusals as why
 use Rattle.exif_change.specs.declared.refusal.Refusal.{Refusal}
 use Rattle.exif_change.specs.declared.refusal.Refusal.TheVariants as change
@@ -172,7 +172,7 @@ refusal_status change.NoThumbnail = status.NoThumbnail
 refusal_status change.OutOfMemory = status.OutOfMemory
 
 -- that of why a file is not changed
-abbrev pub why_status : Why → Status
+abbrev pub why_status : Reason → Status
 why_status (reading refusal) = kind_status refusal
 why_status (editing cause) = cause_status cause
 why_status unknown_format = status.InvalidFormat

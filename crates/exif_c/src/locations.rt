@@ -9,7 +9,7 @@ use crate::buffer::{Answer, given, nothing};
 use crate::status::Status;
 use exif_check::{Location, check, check_json, location_of};
 use exif_formats::format_of;
-use exif_privacy::{Stays, Unread, erase_locations};
+use exif_privacy::{Remaining, Unread, erase_locations};
 use std::alloc::{AllocError, Global};
 
 // The status of a file that was checked.
@@ -43,7 +43,7 @@ pub extern "C" fn mexaldor_check(alloc: Global, file: &[u8], out: &mut [u8]) -> 
 }
 
 // The status of a file with these parts that may still hold a location.
-fn stays_status(stays: &[Stays]) -> Status
+fn stays_status(stays: &[Remaining]) -> Status
     ensures { result ≡ stays_status stays.now }
 {
     if stays.is_empty() {

@@ -5,37 +5,37 @@ use Rattle.exif_inventory.specs.Walks.{inventory}
 use Rattle.exif_inventory.specs.declared.part.Part.{Part}
 use Rattle.exif_change.specs.Changed.{Change, Undone, still_there, whole}
 use Rattle.exif_change.specs.Found.{foreign, found_in, IsAnswered, with_found, with_parts}
-use Rattle.exif_change.specs.Refusals.{Why}
+use Rattle.exif_change.specs.Refusals.{Reason}
 use Rattle.exif_change.proofs.FoundAll.{contains_map, foreign_all}
 
-no_ok : {X : Type 0} (why : Why) (x : X) → ◌≡◌ {A = Result X Why} (Err why) (Ok x) → ⊥
+no_ok : {X : Type 0} (why : Reason) (x : X) → ◌≡◌ {A = Result X Reason} (Err why) (Ok x) → ⊥
 no_ok why x e = cc
 
 -- a change that left no part, and nothing else, is whole
-pub with_parts_whole : (parts : List Part) (change : Result Change Why) (new : List ℕ) → with_parts parts change ≡ Ok (whole new) → change ≡ Ok (whole new)
+pub with_parts_whole : (parts : List Part) (change : Result Change Reason) (new : List ℕ) → with_parts parts change ≡ Ok (whole new) → change ≡ Ok (whole new)
 with_parts_whole parts (Err why) new e = absurd (no_ok why (whole new) e)
-with_parts_whole parts (Ok change) new e = ap (λ (c : Change). let y : Result Change Why = Ok c in y) same
+with_parts_whole parts (Ok change) new e = ap (λ (c : Change). let y : Result Change Reason = Ok c in y) same
   where
     joined : change.undone ++ map (λ part. Some (still_there part)) parts ≡ []
-    joined = ap (λ (x : Result Change Why). elim x [ Ok c ↦ c.undone | Err why ↦ [] ]) e
+    joined = ap (λ (x : Result Change Reason). elim x [ Ok c ↦ c.undone | Err why ↦ [] ]) e
 
     front : {X : Type 0} (xs ys : List X) → xs ++ ys ≡ [] → xs ≡ []
     front [] ys h = refl
     front (x ∷ xs) ys h = absurd (cc)
 
     file_is : change.file ≡ new
-    file_is = ap (λ (x : Result Change Why). elim x [ Ok c ↦ c.file | Err why ↦ new ]) e
+    file_is = ap (λ (x : Result Change Reason). elim x [ Ok c ↦ c.file | Err why ↦ new ]) e
 
     same : change ≡ whole new
     same = ap (λ (f : List ℕ). record { file = f; undone = change.undone }) file_is ∙ ap (λ (u : List (Option Undone)). record { file = new; undone = u }) (front change.undone _ joined)
 
 -- and so is one in which nothing was found
-pub with_found_whole : (put : Bool) (change : Result Change Why) (new : List ℕ) → with_found put change ≡ Ok (whole new) → change ≡ Ok (whole new)
+pub with_found_whole : (put : Bool) (change : Result Change Reason) (new : List ℕ) → with_found put change ≡ Ok (whole new) → change ≡ Ok (whole new)
 with_found_whole put (Err why) new e = absurd (no_ok why (whole new) e)
 with_found_whole put (Ok change) new e = with_parts_whole (found_in put change.file) (Ok change) new e
 
 -- each part of the new file that does not belong there is among what was left
-pub found_answered : (put : Bool) (made : Result Change Why) (change : Change) (parts : List Part) → with_found put made ≡ Ok change → inventory change.file ≡ Some parts
+pub found_answered : (put : Bool) (made : Result Change Reason) (change : Change) (parts : List Part) → with_found put made ≡ Ok change → inventory change.file ≡ Some parts
     → All (IsAnswered put change.undone) parts
 found_answered put (Err why) change parts e is = absurd (no_ok why change e)
 found_answered put (Ok old) change parts e is = λ k d below no.
@@ -48,10 +48,10 @@ found_answered put (Ok old) change parts e is = λ k d below no.
     said part = Some (still_there part)
 
     file_is : old.file ≡ change.file
-    file_is = ap (λ (x : Result Change Why). elim x [ Ok c ↦ c.file | Err why ↦ [] ]) e
+    file_is = ap (λ (x : Result Change Reason). elim x [ Ok c ↦ c.file | Err why ↦ [] ]) e
 
     undone_is : old.undone ++ map said (found_in put old.file) ≡ change.undone
-    undone_is = ap (λ (x : Result Change Why). elim x [ Ok c ↦ c.undone | Err why ↦ [] ]) e
+    undone_is = ap (λ (x : Result Change Reason). elim x [ Ok c ↦ c.undone | Err why ↦ [] ]) e
 
     found_is : found_in put old.file ≡ foreign put parts []
     found_is =

@@ -6,17 +6,17 @@ use Rattle.exif_edit_base.specs.Causes.{Cause}
 use Rattle.exif_edit_base.specs.Causes as causes
 use Rattle.exif_assign.specs.declared.assignment.Assignment.{Assignment}
 use Rattle.exif_change.specs.InPlace.{field_set, fit_by, fit_one, fitting_set, needs_space}
-use Rattle.exif_change.specs.Refusals.{Fails, Why, as_edited, editing}
+use Rattle.exif_change.specs.Refusals.{Fails, Reason, as_edited, editing}
 use Rattle.exif_change.specs.Setting.{assigned_behind, with_assigned}
 use Rattle.exif_change.specs.declared.refusal.Refusal.{Refusal}
 use Rattle.exif_change.proofs.Steps.{refused_on, refused_then}
 
 -- an answer is no refusal
-ok_err : {A : Type 0} (x : A) (why : Why) → ◌≡◌ {A = Result A Why} (Ok x) (Err why) → ⊥
+ok_err : {A : Type 0} (x : A) (why : Reason) → ◌≡◌ {A = Result A Reason} (Ok x) (Err why) → ⊥
 ok_err x why e = cc
 
 -- where a value is refused, it is so whatever is left over
-fits_refused : (field : Field) (answer : Result (List ℕ) Cause) (file : List ℕ) (left : List Field) (why : Why)
+fits_refused : (field : Field) (answer : Result (List ℕ) Cause) (file : List ℕ) (left : List Field) (why : Reason)
     → as_edited (fit_by field answer (file, [])) ≡ Err why → as_edited (fit_by field answer (file, left)) ≡ Err why
 fits_refused field (Ok new) file left why e = let made : List ℕ × List Field = (new, []) in absurd (ok_err made why e)
 fits_refused field (Err cause) file left why e = by_test (needs_space cause) e
@@ -33,10 +33,10 @@ fit_refused field file left e h =
     (λ why is. fits_refused field (field_set field file) file left why is)
 
 -- a refused field ends the setting of all
-edited_then : {A B : Type 0} (x : Result A Cause) (f : A → Result B Cause) (why : Why) → as_edited x ≡ Err why → as_edited (causes.◌>>=◌ x f) ≡ Err why
+edited_then : {A B : Type 0} (x : Result A Cause) (f : A → Result B Cause) (why : Reason) → as_edited x ≡ Err why → as_edited (causes.◌>>=◌ x f) ≡ Err why
 edited_then (Ok a) f why is = absurd (ok_err a why is)
 edited_then {A = A} {B = B} (Err c) f why is =
-    let again : Result A Why → Result B Why = λ r. elim r [ Ok a ↦ Err (editing c) | Err w ↦ Err w ] in
+    let again : Result A Reason → Result B Reason = λ r. elim r [ Ok a ↦ Err (editing c) | Err w ↦ Err w ] in
     ap again is
 
 pub fits_stop : (fields rest : List Field) (field : Field) (made : List ℕ × List Field) (all : Result (List ℕ × List Field) Cause) (e : Refusal)

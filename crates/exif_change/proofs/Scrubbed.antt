@@ -16,22 +16,22 @@ use Rattle.exif_rewrite.specs.FileLaws.{AnswersPut, IsFound}
 use Rattle.exif_rewrite.specs.RewrittenFile.{file_rewriting, rewriting_as}
 use Rattle.exif_rewrite.proofs.FileHeads.{jpeg_container}
 use Rattle.exif_change.specs.Changed.{Change, Undone, whole}
-use Rattle.exif_change.specs.Refusals.{Why, as_read, reading}
+use Rattle.exif_change.specs.Refusals.{Reason, as_read, reading}
 use Rattle.exif_change.specs.Rewriting.{if_whole, rewritten_jpeg, rewritten_webp, stream_change, stream_ended}
 
 -- a change, or another one
-change_or : Change → Result Change Why → Change
+change_or : Change → Result Change Reason → Change
 change_or other (Ok change) = change
 change_or other (Err why) = other
 
-not_whole : (why : Why) (new : List ℕ) → ◌≡◌ {A = Result Change Why} (Err why) (Ok (whole new)) → ⊥
+not_whole : (why : Reason) (new : List ℕ) → ◌≡◌ {A = Result Change Reason} (Err why) (Ok (whole new)) → ⊥
 not_whole why new e = cc
 
 -- ---- JPEG streams
 
 -- a stream that was whole
 ends_whole : (how : Ended) (bytes new : List ℕ)
-    → ◌≡◌ {A = Result Change Why} (Ok (stream_change bytes how)) (Ok (whole new))
+    → ◌≡◌ {A = Result Change Reason} (Ok (stream_change bytes how)) (Ok (whole new))
     → (how ≡ Whole) × (bytes ≡ new)
 unfolding change_or
 ends_whole Whole bytes new e = (refl, ap (λ r. (change_or (whole new) r).file) e)

@@ -18,7 +18,7 @@ use Rattle.exif_grow.specs.Fields.{fields_grown}
 use Rattle.exif_rewrite.specs.FileLaws.{IsFound}
 use Rattle.exif_change.specs.Changed.{Change, whole}
 use Rattle.exif_change.specs.Growing.{grown_by, grown_file, item_moved, longest, naming, put, put_alone, replaced, too_long_for}
-use Rattle.exif_change.specs.Refusals.{Why, as_edited, as_read, second_exif, ◌>>=◌}
+use Rattle.exif_change.specs.Refusals.{Reason, as_edited, as_read, second_exif, ◌>>=◌}
 use Rattle.exif_change.specs.Rewriting.{rewritten}
 use Rattle.exif_change.specs.Second.{has_second}
 use Rattle.exif_change.specs.SetLaws.{HoldsSet}
@@ -26,22 +26,22 @@ use Rattle.exif_change.proofs.Scrubbed.{jpeg_answers, webp_answers}
 
 -- ---- steps that came through
 
-pub bound : {A B : Type 0} (x : Result A Why) (f : A → Result B Why) (b : B) → (x >>= f) ≡ Ok b
+pub bound : {A B : Type 0} (x : Result A Reason) (f : A → Result B Reason) (b : B) → (x >>= f) ≡ Ok b
     → (a : A) × (x ≡ Ok a) × (f a ≡ Ok b)
 bound (Ok a) f b e = (a, refl, e)
 bound {B = B} (Err why) f b e = absurd (err_ok e)
   where
-    err_ok : ◌≡◌ {A = Result B Why} (Err why) (Ok b) → ⊥
+    err_ok : ◌≡◌ {A = Result B Reason} (Err why) (Ok b) → ⊥
     err_ok e = cc
 
 pub edited_ok : {A : Type 0} (x : Result A Cause) (a : A) → as_edited x ≡ Ok a → x ≡ Ok a
 edited_ok {A = A} (Ok y) a e = ap (λ z. Ok z) (ok_same e)
   where
-    ok_same : ◌≡◌ {A = Result A Why} (Ok y) (Ok a) → y ≡ a
+    ok_same : ◌≡◌ {A = Result A Reason} (Ok y) (Ok a) → y ≡ a
     ok_same e = cc
 edited_ok {A = A} (Err c) a e = absurd (err_ok e)
   where
-    err_ok : ◌≡◌ {A = Result A Why} (as_edited (Err c)) (Ok a) → ⊥
+    err_ok : ◌≡◌ {A = Result A Reason} (as_edited (Err c)) (Ok a) → ⊥
     err_ok e = cc
 
 -- what was put is what was written again
@@ -50,7 +50,7 @@ naming_ok : (tag : Option Tag) (x : Result Change types.Refusal) (c : Change)
 naming_ok tag (Ok y) c e = e
 naming_ok tag (Err (types.too_big text)) c e = absurd (err_ok e)
   where
-    err_ok : ◌≡◌ {A = Result Change Why} (Err (too_long_for tag text)) (Ok c) → ⊥
+    err_ok : ◌≡◌ {A = Result Change Reason} (Err (too_long_for tag text)) (Ok c) → ⊥
     err_ok e = cc
 naming_ok tag (Err (types.invalid_format text)) c e = e
 naming_ok tag (Err (types.not_found text)) c e = e
@@ -61,21 +61,21 @@ naming_ok tag (Err (types.unexpected_value text)) c e = e
 else_same : (b : Bool) (x c : Change) → (if b then Err second_exif else Ok x) ≡ Ok c → x ≡ c
 else_same true x c e = absurd (err_ok e)
   where
-    err_ok : ◌≡◌ {A = Result Change Why} (Err second_exif) (Ok c) → ⊥
+    err_ok : ◌≡◌ {A = Result Change Reason} (Err second_exif) (Ok c) → ⊥
     err_ok e = cc
 else_same false x c e = ok_same e
   where
-    ok_same : ◌≡◌ {A = Result Change Why} (Ok x) (Ok c) → x ≡ c
+    ok_same : ◌≡◌ {A = Result Change Reason} (Ok x) (Ok c) → x ≡ c
     ok_same e = cc
 
-change_or : Change → Result Change Why → Change
+change_or : Change → Result Change Reason → Change
 change_or other (Ok change) = change
 change_or other (Err why) = other
 
 edit_same : (a b : List ℕ) → ◌≡◌ {A = Result (List ℕ) Cause} (Ok a) (Ok b) → a ≡ b
 edit_same a b e = cc
 
-pub tiff_same : (a b : List ℕ) → ◌≡◌ {A = Result Change Why} (Ok (whole a)) (Ok (whole b)) → a ≡ b
+pub tiff_same : (a b : List ℕ) → ◌≡◌ {A = Result Change Reason} (Ok (whole a)) (Ok (whole b)) → a ≡ b
 unfolding change_or
 tiff_same a b e = ap (λ r. (change_or (whole b) r).file) e
 

@@ -9,22 +9,22 @@ use Rattle.exif_edit_base.specs.Causes as causes
 use Rattle.exif_edit_base.specs.Causes.{Cause, cause_of}
 use Rattle.exif_edit_base.specs.declared.error.Error.{Error}
 use Rattle.exif_edit_base.specs.declared.error.Error.TheVariants as edit
-use Rattle.exif_change.specs.Refusals.{Fails, IsStopped, Why, as_edited, as_read, editing, reading, why_of, ◌>>=◌}
+use Rattle.exif_change.specs.Refusals.{Fails, IsStopped, Reason, as_edited, as_read, editing, reading, why_of, ◌>>=◌}
 use Rattle.exif_change.specs.declared.refusal.Refusal.{Refusal}
 use Rattle.exif_change.specs.declared.refusal.Refusal.TheVariants as refusal
 
 -- a step's refusal is that of the whole
-pub refused_on : {X Y : Type 0} (e : Refusal) (x : Result X Why) (y : Result Y Why) → Fails e x
-    → ((why : Why) → x ≡ Err why → y ≡ Err why) → Fails e y
+pub refused_on : {X Y : Type 0} (e : Refusal) (x : Result X Reason) (y : Result Y Reason) → Fails e x
+    → ((why : Reason) → x ≡ Err why → y ≡ Err why) → Fails e y
 refused_on {X = X} {Y = Y} e x y h f = by_why (why_of e) h
   where
-    by_why : (o : Option Why) → MatchOption o (IsStopped e) (λ why. x ≡ Err why)
+    by_why : (o : Option Reason) → MatchOption o (IsStopped e) (λ why. x ≡ Err why)
         → MatchOption o (IsStopped e) (λ why. y ≡ Err why)
     by_why None h = h
     by_why (Some why) h = f why h
 
 -- the same where the whole goes on with what the step gives
-pub refused_then : {X Y : Type 0} (e : Refusal) (x : Result X Why) (f : X → Result Y Why) → Fails e x → Fails e (x >>= f)
+pub refused_then : {X Y : Type 0} (e : Refusal) (x : Result X Reason) (f : X → Result Y Reason) → Fails e x → Fails e (x >>= f)
 refused_then e x f h = refused_on e x (x >>= f) h (λ why is. ap (λ r. r >>= f) is)
 
 -- a refusal of reading

@@ -5,27 +5,27 @@ use Rattle.exif_types.specs.declared.tag.Tag.{Tag}
 use Rattle.exif_edit_base.specs.Causes.{Cause, cause_of}
 use Rattle.exif_datetime.specs.declared.shift.Unmoved.{Unmoved}
 use Rattle.exif_inventory.specs.declared.part.Part.{Part}
-use Rattle.exif_privacy.specs.declared.stays.Stays.{Stays}
+use Rattle.exif_privacy.specs.declared.remaining.Remaining.{Remaining}
 use Rattle.exif_change.specs.declared.changed.Changed.{Changed}
-use Rattle.exif_change.specs.declared.changed.Left.{Left}
-use Rattle.exif_change.specs.declared.changed.Left.TheVariants as left
+use Rattle.exif_change.specs.declared.changed.Residual.{Residual}
+use Rattle.exif_change.specs.declared.changed.Residual.TheVariants as left
 
 -- what was left undone, as plain data
 pub data Undone : Type 0 where
   unmoved : Tag → Unmoved → Undone
   unset : Tag → Cause → Undone
   cut_off : Undone
-  stays : Stays → Undone
+  stays : Remaining → Undone
   still_there : Part → Undone
   color_kept : Undone
   other_dates : Undone
 
 -- what the program says of it; a refused edit has a cause
-abbrev pub undone_of : Left → Option Undone
+abbrev pub undone_of : Residual → Option Undone
 undone_of (left.Date tag why) = Some (unmoved tag why)
 undone_of (left.Edit tag e) = option_map (unset tag) (cause_of e)
 undone_of left.CutOff = Some cut_off
-undone_of (left.Stays s) = Some (stays s)
+undone_of (left.Remaining s) = Some (stays s)
 undone_of (left.Part part) = Some (still_there part)
 undone_of left.Color = Some color_kept
 undone_of left.OtherDates = Some other_dates

@@ -5,7 +5,7 @@ use Rattle.exif_inventory.specs.declared.kind.Kind.{Kind}
 use Rattle.exif_inventory.specs.declared.kind.Kind.TheVariants as kind
 use Rattle.exif_inventory.specs.declared.part.Part.{Part}
 use Rattle.exif_change.specs.Changed.{Change, Undone, still_there}
-use Rattle.exif_change.specs.Refusals.{Why}
+use Rattle.exif_change.specs.Refusals.{Reason}
 
 -- whether a part of this kind is what a picture needs, or Exif data that were put
 abbrev pub is_wanted : Bool → Kind → Bool
@@ -31,7 +31,7 @@ abbrev pub found_in : Bool → List ℕ → List Part
 found_in put file = elim (inventory file) [ Some parts ↦ foreign put parts [] | None ↦ [] ]
 
 -- a change that left these parts too, which may hold metadata
-abbrev pub with_parts : List Part → Result Change Why → Result Change Why
+abbrev pub with_parts : List Part → Result Change Reason → Result Change Reason
 with_parts parts (Ok change) = Ok (record {
   file = change.file;
   undone = change.undone ++ map (λ part. Some (still_there part)) parts;
@@ -39,7 +39,7 @@ with_parts parts (Ok change) = Ok (record {
 with_parts parts (Err why) = Err why
 
 -- a JPEG or WebP file that was rewritten, with what is found in it that does not belong there
-abbrev pub with_found : Bool → Result Change Why → Result Change Why
+abbrev pub with_found : Bool → Result Change Reason → Result Change Reason
 with_found put (Ok change) = with_parts (found_in put change.file) (Ok change)
 with_found put (Err why) = Err why
 

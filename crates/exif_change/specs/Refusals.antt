@@ -12,22 +12,22 @@ use Rattle.exif_change.specs.declared.refusal.Refusal.{Refusal}
 use Rattle.exif_change.specs.declared.refusal.Refusal.TheVariants as refusal
 
 -- why a file is not changed, as plain data
-pub data Why : Type 0 where
-  reading : types.Refusal → Why
-  editing : Cause → Why
-  unknown_format : Why
-  tiff_fault : Fault → Why
-  heif_fault : heif.Fault → Why
-  second_exif : Why
-  too_long : Tag → Why
-  no_field : Why
-  not_of_its_type : Tag → Why
-  out_of_range : Tag → Why
-  no_date : Why
-  no_thumbnail : Why
+pub data Reason : Type 0 where
+  reading : types.Refusal → Reason
+  editing : Cause → Reason
+  unknown_format : Reason
+  tiff_fault : Fault → Reason
+  heif_fault : heif.Fault → Reason
+  second_exif : Reason
+  too_long : Tag → Reason
+  no_field : Reason
+  not_of_its_type : Tag → Reason
+  out_of_range : Tag → Reason
+  no_date : Reason
+  no_thumbnail : Reason
 
 -- what a refusal says; out of memory is none
-abbrev pub why_of : Refusal → Option Why
+abbrev pub why_of : Refusal → Option Reason
 why_of (refusal.Reading e) = option_map reading (refusal_of e)
 why_of (refusal.Editing e) = option_map editing (cause_of e)
 why_of refusal.UnknownFormat = Some unknown_format
@@ -53,32 +53,32 @@ IsStopped _ = ⊥
 
 -- one step after another: the first refusal is the answer
 infixl 10 ◌>>=◌
-abbrev pub ◌>>=◌ : {A B : Type 0} → Result A Why → (A → Result B Why) → Result B Why
+abbrev pub ◌>>=◌ : {A B : Type 0} → Result A Reason → (A → Result B Reason) → Result B Reason
 (Ok x) >>= f = f x
 (Err why) >>= f = Err why
 
 -- what was read, or why it was not
-abbrev pub as_read : {A : Type 0} → Result A types.Refusal → Result A Why
+abbrev pub as_read : {A : Type 0} → Result A types.Refusal → Result A Reason
 as_read (Ok x) = Ok x
 as_read (Err r) = Err (reading r)
 
 -- what was edited, or why it was not
-abbrev pub as_edited : {A : Type 0} → Result A Cause → Result A Why
+abbrev pub as_edited : {A : Type 0} → Result A Cause → Result A Reason
 as_edited (Ok x) = Ok x
 as_edited (Err cause) = Err (editing cause)
 
 -- ---- what calls say
 
 -- an error tells why the answer is a refusal, or memory ran out
-abbrev pub Fails : {Y : Type 0} → Refusal → Result Y Why → Type 0
+abbrev pub Fails : {Y : Type 0} → Refusal → Result Y Reason → Type 0
 Fails e answer = MatchOption (why_of e) (IsStopped e) (λ why. answer ≡ Err why)
 
 -- a result, seen by view, is the answer
-abbrev pub Answers : {X Y : Type 0} → (X → Y) → Result X Refusal → Result Y Why → Type 0
+abbrev pub Answers : {X Y : Type 0} → (X → Y) → Result X Refusal → Result Y Reason → Type 0
 Answers view (Ok x) answer = answer ≡ Ok (view x)
 Answers view (Err e) answer = Fails e answer
 
 -- bytes were changed as the answer says, or nothing has changed
-abbrev pub Changes : Result (Unit {0}) Refusal → List ℕ → List ℕ → Result (List ℕ) Why → Type 0
+abbrev pub Changes : Result (Unit {0}) Refusal → List ℕ → List ℕ → Result (List ℕ) Reason → Type 0
 Changes (Ok _) old new answer = answer ≡ Ok new
 Changes (Err e) old new answer = (new ≡ old) × Fails e answer

@@ -12,7 +12,7 @@ use Rattle.exif_datetime.specs.declared.shift.Unmoved.{Unmoved}
 use Rattle.exif_change.specs.Changed.{Change, Undone, unmoved, unset, whole}
 use Rattle.exif_change.specs.InPlace.{field_set}
 use Rattle.exif_change.specs.Reading.{file_contents}
-use Rattle.exif_change.specs.Refusals.{Why, as_read, no_date, ◌>>=◌}
+use Rattle.exif_change.specs.Refusals.{Reason, as_read, no_date, ◌>>=◌}
 use Rattle.exif_change.specs.Setting.{primary}
 use Rattle.exif_change.specs.declared.dates.Dates.{Dates}
 use Rattle.exif_change.specs.declared.dates.Dates.TheVariants as dates
@@ -62,12 +62,12 @@ has_dates fields [] = false
 has_dates fields (tag ∷ tags) = if has_date fields tag then true else has_dates fields tags
 
 -- a file with its dates moved
-abbrev pub dates_moved : ClockShift → Dates → List Field → List ℕ → Result Change Why
+abbrev pub dates_moved : ClockShift → Dates → List Field → List ℕ → Result Change Reason
 dates_moved by dates fields file =
     if has_dates fields (tags_of dates) then Ok (tags_moved by fields (tags_of dates) (whole file))
     else Err no_date
 
 -- the same of a file by what is read of it
-abbrev pub shifted : ClockShift → Dates → List ℕ → Result Change Why
+abbrev pub shifted : ClockShift → Dates → List ℕ → Result Change Reason
 shifted by dates file =
     as_read (file_contents file) >>= λ contents. dates_moved by dates contents.fields file

@@ -10,11 +10,11 @@ use Rattle.exif_inventory.specs.declared.kind.Kind.{Kind}
 use Rattle.exif_inventory.specs.declared.kind.Kind.TheVariants as kind
 use Rattle.exif_inventory.specs.declared.part.Part.{Part}
 use Rattle.exif_locations.specs.declared.xmp.fault.Fault.TheVariants as xmp
-use Rattle.exif_privacy.specs.declared.stays.Why.TheVariants as why
+use Rattle.exif_privacy.specs.declared.remaining.Reason.TheVariants as why
 use Rattle.exif_scrub.specs.declared.heif.fault.Fault.TheVariants as heif
 use Rattle.exif_scrub.specs.declared.tiff.fault.Fault.TheVariants as tiff
 use Rattle.exif_change.specs.Texts.{left_text, refusal_text}
-use Rattle.exif_change.specs.declared.changed.Left.TheVariants as left
+use Rattle.exif_change.specs.declared.changed.Residual.TheVariants as left
 use Rattle.exif_change.specs.declared.refusal.Refusal.TheVariants as refusal
 
 -- tags of Exif 2.32, 4.6: when the file changed, and when the picture was taken
@@ -57,12 +57,12 @@ edit_refused : left_text (left.Edit taken_tag edit.SharedBytes)
 unfolding row_of_tag
 edit_refused = refl
 
-xmp_stays : left_text (left.Stays (record { part = part kind.Xmp; why = why.XmpNotRead xmp.Cut }))
+xmp_stays : left_text (left.Remaining (record { part = part kind.Xmp; why = why.XmpNotRead xmp.Cut }))
     ≡ Some (codes "still there: XMP packet at offset 1234, which can't be read (XMP ends too early); --force-blank blanks it")
 unfolding digits
 xmp_stays = refl
 
-texts_stay : left_text (left.Stays (record { part = part kind.Exif; why = why.Texts }))
+texts_stay : left_text (left.Remaining (record { part = part kind.Exif; why = why.Texts }))
     ≡ Some (codes "a location may be left: Exif data at offset 1234 has texts, which are not judged")
 unfolding digits
 texts_stay = refl

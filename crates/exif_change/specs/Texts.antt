@@ -9,11 +9,11 @@ use Rattle.exif_datetime.specs.declared.shift.Unmoved.{Unmoved}
 use Rattle.exif_datetime.specs.declared.shift.Unmoved.TheVariants.{Blank, Invalid, OutOfRange}
 use Rattle.exif_inventory.specs.KindTexts.{kind_text}
 use Rattle.exif_privacy.specs.Parts.{can_be_blanked}
-use Rattle.exif_privacy.specs.StaysTexts.{stays_text}
+use Rattle.exif_privacy.specs.RemainingTexts.{stays_text}
 use Rattle.exif_scrub.specs.HeifFaultTexts as heif
 use Rattle.exif_scrub.specs.TiffFaultTexts as tiff
-use Rattle.exif_change.specs.declared.changed.Left.{Left}
-use Rattle.exif_change.specs.declared.changed.Left.TheVariants as left
+use Rattle.exif_change.specs.declared.changed.Residual.{Residual}
+use Rattle.exif_change.specs.declared.changed.Residual.TheVariants as left
 use Rattle.exif_change.specs.declared.refusal.Refusal.{Refusal}
 use Rattle.exif_change.specs.declared.refusal.Refusal.TheVariants as refusal
 
@@ -48,12 +48,12 @@ blanking_text true text = text ++ codes "; --force-blank blanks it"
 blanking_text false text = text
 
 -- what was left undone in a changed file
-abbrev pub left_text : Left → Option (List ℕ)
+abbrev pub left_text : Residual → Option (List ℕ)
 left_text (left.Date tag why) = Some (tag_text tag ++ unmoved_text why)
 left_text (left.Edit tag e) =
     option_map (λ cause. tag_text tag ++ (codes " was not moved: " ++ cause)) (editing.error_text e)
 left_text left.CutOff = Some (codes "The file is cut off")
-left_text (left.Stays s) = Some (blanking_text (can_be_blanked s.why) (stays_text s))
+left_text (left.Remaining s) = Some (blanking_text (can_be_blanked s.why) (stays_text s))
 left_text (left.Part part) = Some (codes "still there: " ++ (kind_text part.kind
     ++ (codes " at offset " ++ (decimal part.offset ++ codes ", which may hold metadata"))))
 left_text left.Color = Some (codes "the colour profile stays in files of this format")

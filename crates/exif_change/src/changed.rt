@@ -6,7 +6,7 @@ ghost use Rattle.exif_change.specs.Changed.{change_of, whole};
 use exif::Tag;
 use exif_datetime::Unmoved;
 use exif_inventory::Part;
-use exif_privacy::Stays;
+use exif_privacy::Remaining;
 use std::alloc::Global;
 use std::fmt;
 
@@ -16,7 +16,7 @@ pub struct Changed {
     /// The new bytes.
     pub file: Vec<u8>,
     /// What a program is to report: nothing where all was done.
-    pub left: Vec<Left>,
+    pub left: Vec<Residual>,
 }
 
 impl Changed {
@@ -33,7 +33,7 @@ impl Changed {
 
 /// What was left undone in a changed file.
 #[derive(Debug, Drop)]
-pub enum Left {
+pub enum Residual {
     /// A date that is not moved.
     Date(Tag, Unmoved),
     /// A date that is not set, since its edit was refused.
@@ -42,7 +42,7 @@ pub enum Left {
     /// changed as far as it goes.
     CutOff,
     /// A part of the file may still hold a location.
-    Stays(Stays),
+    Remaining(Remaining),
     /// A part of the file may still hold metadata.
     Part(Part),
     /// The colour profile, which was to be removed, stays: the file's format keeps it.
@@ -51,35 +51,35 @@ pub enum Left {
     OtherDates,
 }
 
-impl fmt::Display for Left {
+impl fmt::Display for Residual {
     ghost use Rattle.exif_change.specs.Texts.{left_text};
 
     ghost output = { left_text };
 
     fn fmt<W: fmt::Write>(&self, f: &mut fmt::Formatter<W>) -> fmt::Result {
         match self {
-            Left::Date(tag, Unmoved::Blank) => write!(f, "{tag} is blank and was not moved"),
-            Left::Date(tag, Unmoved::Invalid) => {
+            Residual::Date(tag, Unmoved::Blank) => write!(f, "{tag} is blank and was not moved"),
+            Residual::Date(tag, Unmoved::Invalid) => {
                 write!(f, "{tag} is not a date of the calendar and was not moved")
             }
-            Left::Date(tag, Unmoved::OutOfRange) => {
+            Residual::Date(tag, Unmoved::OutOfRange) => {
                 write!(f, "{tag} would leave the years 0 to 9999 and was not moved")
             }
-            Left::Edit(tag, cause) => write!(f, "{tag} was not moved: {cause}"),
-            Left::CutOff => write!(f, "The file is cut off"),
-            Left::Stays(stays) if stays.why.can_be_blanked() => {
+            Residual::Edit(tag, cause) => write!(f, "{tag} was not moved: {cause}"),
+            Residual::CutOff => write!(f, "The file is cut off"),
+            Residual::Remaining(stays) if stays.why.can_be_blanked() => {
                 write!(f, "{stays}; --force-blank blanks it")
             }
-            Left::Stays(stays) => write!(f, "{stays}"),
-            Left::Part(part) => {
+            Residual::Remaining(stays) => write!(f, "{stays}"),
+            Residual::Part(part) => {
                 let (kind, offset) = (part.kind, part.offset);
                 write!(
                     f,
                     "still there: {kind} at offset {offset}, which may hold metadata"
                 )
             }
-            Left::Color => write!(f, "the colour profile stays in files of this format"),
-            Left::OtherDates => f.write_str("dates in its XMP or IPTC data are not changed"),
+            Residual::Color => write!(f, "the colour profile stays in files of this format"),
+            Residual::OtherDates => f.write_str("dates in its XMP or IPTC data are not changed"),
         }
     }
 }

@@ -7,7 +7,7 @@ ghost use Rattle.exif_datetime.specs.Shift.{moved_value};
 ghost use Rattle.exif_change.specs.Refusals.{Answers};
 ghost use Rattle.exif_change.specs.Shifting.{date, date_moved, date_set, dates_moved, has_date, has_dates, shifted, tag_moved, tags_moved, tags_of};
 
-use crate::changed::{Changed, Left};
+use crate::changed::{Changed, Residual};
 use crate::in_place::set_field;
 use crate::{Refusal, read};
 use exif::{Exif, Field, In, Tag, Value};
@@ -115,7 +115,7 @@ fn date_moved(
 {
     match moved_value(alloc, by, value)? {
         Ok(value) => date_set(alloc, tag, value, changed),
-        Err(why) => Ok(changed.left.push(Left::Date(tag, why))?),
+        Err(why) => Ok(changed.left.push(Residual::Date(tag, why))?),
     }
 }
 
@@ -136,10 +136,10 @@ fn date_set(alloc: Global, tag: Tag, value: Value, changed: &mut Changed) -> Res
 fn left_unset(changed: &mut Changed, tag: Tag, error: exif_edit::Error) -> Result<(), AllocError>
     ensures { OnOk result (change_of changed.new ≡ record {
       file = changed.old.file.items;
-      undone = map undone_of changed.old.left.items ++ undone_of (Left.Edit tag error) ∷ [];
+      undone = map undone_of changed.old.left.items ++ undone_of (Residual.Edit tag error) ∷ [];
     }) }
 {
-    changed.left.push(Left::Edit(tag, error))?;
+    changed.left.push(Residual::Edit(tag, error))?;
     Ok(())
 }
 

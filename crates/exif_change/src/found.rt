@@ -6,7 +6,7 @@ ghost use Rattle.exif_change.specs.Found.{belongs, foreign, found_in, with_found
 ghost use Rattle.exif_change.specs.Refusals.{Answers};
 
 use crate::Refusal;
-use crate::changed::{Changed, Left};
+use crate::changed::{Changed, Residual};
 use exif_inventory::{Kind, Part, inventory};
 use std::alloc::{AllocError, Global};
 
@@ -56,7 +56,7 @@ pub(crate) fn with_parts(
 {
     let Changed { file, mut left } = changed;
     for part in parts {
-        left.push(Left::Part(*part))?;
+        left.push(Residual::Part(*part))?;
     }
     Ok(Changed { file, left })
 }

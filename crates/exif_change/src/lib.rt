@@ -21,7 +21,7 @@ pub mod set_laws;
 mod setting;
 mod thumbnails;
 
-pub use changed::{Changed, Left};
+pub use changed::{Changed, Residual};
 pub use dates::{Dates, shift};
 pub use exif_assign::Assignment;
 pub use exif_datetime::{ClockShift, Unmoved};

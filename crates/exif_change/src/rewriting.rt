@@ -5,7 +5,7 @@ ghost use Rattle.exif_segments.specs.Removing.{payload_of};
 ghost use Rattle.exif_change.specs.Changed.{change_of};
 ghost use Rattle.exif_change.specs.Rewriting.{rewritten, rewritten_jpeg, rewritten_webp};
 
-use crate::changed::{Changed, Left};
+use crate::changed::{Changed, Residual};
 use exif::Error;
 use exif_containers::container::Format;
 use exif_parts::{Ended, rewrite_jpeg, rewrite_webp};
@@ -24,7 +24,7 @@ fn rewritten_jpeg(
     let new = rewrite_jpeg(alloc, file, remove, exif)?;
     let mut changed = Changed::whole(alloc, new.bytes);
     if let Ended::Cut = new.ended {
-        changed.left.push(Left::CutOff)?;
+        changed.left.push(Residual::CutOff)?;
     }
     Ok(changed)
 }

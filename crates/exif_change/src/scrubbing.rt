@@ -11,14 +11,14 @@ ghost use Rattle.exif_privacy.specs.Erasing.{erased as privacy_erased};
 ghost use Rattle.exif_change.specs.Reading.{file_contents};
 ghost use Rattle.exif_change.specs.Refusals.{Answers};
 
-use crate::changed::{Changed, Left};
+use crate::changed::{Changed, Residual};
 use crate::found::{with_found, with_parts};
 use crate::reading::ENTRY_LIMIT;
 use crate::rewriting::rewritten;
 use crate::{Refusal, read};
 use exif_containers::container::{Format, format_of};
 use exif_edit::{Edit, Error, apply_in_file};
-use exif_privacy::{Stays, Unread, erase_locations};
+use exif_privacy::{Remaining, Unread, erase_locations};
 use exif_rewrite::{Remove, UPRIGHT, scrubbed_exif, without_color_profile};
 use std::alloc::{AllocError, Global};
 
@@ -66,7 +66,7 @@ fn with_color(changed: Changed) -> Result<Changed, Refusal>
     ensures { Answers change_of result (with_color (Ok (change_of changed))) }
 {
     let Changed { file, mut left } = changed;
-    left.push(Left::Color)?;
+    left.push(Residual::Color)?;
     Ok(Changed { file, left })
 }
 
@@ -186,13 +186,13 @@ pub fn parts_unlocated(alloc: Global, unread: Unread, mut file: Vec<u8>) -> Resu
 }
 
 // What is left undone where parts may still hold a location.
-fn all_stay(alloc: Global, parts: &[Stays]) -> Result<Vec<Left>, AllocError>
+fn all_stay(alloc: Global, parts: &[Remaining]) -> Result<Vec<Residual>, AllocError>
     ensures { IfOk result (λ left. map undone_of left.items
         ≡ map (λ part. Some (stays part)) parts.now) }
 {
     let mut left = Vec::with_capacity(alloc, parts.len())?;
     for part in parts {
-        left.push(Left::Stays(*part))?;
+        left.push(Residual::Remaining(*part))?;
     }
     Ok(left)
 }

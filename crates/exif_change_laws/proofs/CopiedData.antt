@@ -26,7 +26,7 @@ use Rattle.exif_parts.specs.Png.{png_rewritten}
 use Rattle.exif_parts.specs.PngLaws.{PngIsAnswered}
 use Rattle.exif_change.specs.Changed.{Change, whole}
 use Rattle.exif_change.specs.Reading.{Contents, data_contents, entry_limit, fields_in, without_fault}
-use Rattle.exif_change.specs.Refusals.{Why, as_read, reading, unknown_format, ◌>>=◌}
+use Rattle.exif_change.specs.Refusals.{Reason, as_read, reading, unknown_format, ◌>>=◌}
 use Rattle.exif_change.specs.Rewriting.{if_whole, stream_change, stream_ended}
 use Rattle.exif_change.proofs.Scrubbed.{jpeg_answers, webp_answers}
 use Rattle.exif_copy.specs.Copied.{copied, placed_shaped}
@@ -35,7 +35,7 @@ use Rattle.exif_copy.specs.Placed.{placed, placed_in_jxl, target_refused}
 use Rattle.exif_copy.specs.declared.copying.Shape.TheVariants.{Source}
 use Rattle.exif_change_laws.specs.JxlFound.{JxlIsFound}
 
-no_ok : {X : Type 0} (why : Why) (x : X) → ◌≡◌ {A = Result X Why} (Err why) (Ok x) → ⊥
+no_ok : {X : Type 0} (why : Reason) (x : X) → ◌≡◌ {A = Result X Reason} (Err why) (Ok x) → ⊥
 no_ok why x e = cc
 
 -- ---- formats
@@ -77,7 +77,7 @@ webp_known file e =
 
 -- ---- PNG files
 
-abbrev change_or : Change → Result Change Why → Change
+abbrev change_or : Change → Result Change Reason → Change
 change_or other (Ok change) = change
 change_or other (Err why) = other
 

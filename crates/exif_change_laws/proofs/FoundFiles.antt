@@ -12,14 +12,14 @@ use Rattle.exif_inventory.specs.declared.part.Part.{Part}
 use Rattle.exif_change.specs.Changed.{Change, Undone}
 use Rattle.exif_change.specs.Changes.{kept, scrubbed}
 use Rattle.exif_change.specs.Found.{IsAnswered, is_wanted, with_found}
-use Rattle.exif_change.specs.Refusals.{Why, as_read, ◌>>=◌}
+use Rattle.exif_change.specs.Refusals.{Reason, as_read, ◌>>=◌}
 use Rattle.exif_change.specs.Rewriting.{rewritten}
 use Rattle.exif_change.specs.declared.scrubbing.Removed.TheVariants.{AllButOrientation, Metadata}
 use Rattle.exif_change.proofs.FoundParts.{found_answered}
 use Rattle.exif_change_laws.specs.Scrubbed.{AllAnswered, IsScrubbedTo, is_written_again}
 use Rattle.exif_change_laws.proofs.ScrubbedFiles.{scrubbed_by}
 
-no_ok : (why : Why) (x : Change) → ◌≡◌ {A = Result Change Why} (Err why) (Ok x) → ⊥
+no_ok : (why : Reason) (x : Change) → ◌≡◌ {A = Result Change Reason} (Err why) (Ok x) → ⊥
 no_ok why x e = cc
 
 by_metadata : (file : List ℕ) (change : Change) (o : Option Format) → format_in file ≡ o → is_written_again o ≡ true → scrubbed Metadata file ≡ Ok change → AllAnswered false change
@@ -61,7 +61,7 @@ weaker true undone part a = a
 weaker false undone part a = λ no. a (fewer (part.picture == 0) part.kind no)
 
 -- by what was kept
-by_kept : (format : Format) (file : List ℕ) (k : Result (Option (List ℕ)) Why) (change : Change) (parts : List Part)
+by_kept : (format : Format) (file : List ℕ) (k : Result (Option (List ℕ)) Reason) (change : Change) (parts : List Part)
     → (k >>= λ put. with_found (is_some put) (as_read (rewritten format remove.Metadata put file))) ≡ Ok change
     → inventory change.file ≡ Some parts → All (IsAnswered true change.undone) parts
 by_kept format file (Err why) change parts e is = absurd (no_ok why change e)

@@ -40,7 +40,7 @@ use Rattle.exif_scrub.proofs.HeifTwice.{both_true, settled_bytes, settled_is}
 use Rattle.exif_change.specs.Changed.{Change, still_there, whole}
 use Rattle.exif_change.specs.Changes.{heif_emptied, heif_left, if_edited}
 use Rattle.exif_change.specs.Reading.{entry_limit}
-use Rattle.exif_change.specs.Refusals.{Why, heif_fault, ◌>>=◌}
+use Rattle.exif_change.specs.Refusals.{Reason, heif_fault, ◌>>=◌}
 use Rattle.exif_change_laws.proofs.PatchedSame.{HasAt, patched_same, spread_held}
 
 -- ---- data without fields hold what erasing all fields puts over them
@@ -177,10 +177,10 @@ settled_emptied file left e =
 
 -- ---- what is made of a HEIF file
 
-no_ok : {X : Type 0} (why : Why) (x : X) → ◌≡◌ {A = Result X Why} (Err why) (Ok x) → ⊥
+no_ok : {X : Type 0} (why : Reason) (x : X) → ◌≡◌ {A = Result X Reason} (Err why) (Ok x) → ⊥
 no_ok why x e = cc
 
-change_same : (x y : Change) → ◌≡◌ {A = Result Change Why} (Ok x) (Ok y) → x ≡ y
+change_same : (x y : Change) → ◌≡◌ {A = Result Change Reason} (Ok x) (Ok y) → x ≡ y
 change_same x y e = cc
 
 -- a file with the parts that are left of it
@@ -219,7 +219,7 @@ no_cause cause new e = cc
 made_from : (from : List ℕ) (change : Change) → heif_emptied (true, from) ≡ Ok change → Made from change
 made_from from change e = by (edited_file entry_limit EraseAll from) refl e
   where
-    Then : Result Change Why → Type 0
+    Then : Result Change Reason → Type 0
     Then r = (r >>= (λ c. heif_left c (heif.settled c.file))) ≡ Ok change
 
     by : (x : Result (List ℕ) Cause) → edited_file entry_limit EraseAll from ≡ x → Then (if_edited from x) → Made from change

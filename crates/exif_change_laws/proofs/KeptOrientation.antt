@@ -22,7 +22,7 @@ use Rattle.exif_change.specs.Changed.{whole}
 use Rattle.exif_change.specs.Changes.{kept, orientation_in, scrubbed, upright}
 use Rattle.exif_change.specs.Found.{with_found}
 use Rattle.exif_change.specs.Reading.{Contents, data_contents, fields_in, file_contents, without_fault}
-use Rattle.exif_change.specs.Refusals.{Why, as_read, reading, ◌>>=◌}
+use Rattle.exif_change.specs.Refusals.{Reason, as_read, reading, ◌>>=◌}
 use Rattle.exif_change.specs.Rewriting.{rewritten}
 use Rattle.exif_change.specs.declared.scrubbing.Removed.TheVariants.{AllButOrientation}
 use Rattle.exif_change.proofs.FoundParts.{with_found_whole}
@@ -38,7 +38,7 @@ alone_read order number h =
     ap (λ (a : Answer). types.◌>>=◌ (fields_in a) (λ fs. types.◌>>=◌ (without_fault (header bytes)) (λ o. Ok (record { bytes = bytes; order = o; fields = fs })))) (told_read order number h)
     ∙ ap (λ (r : Result Order Fault). types.◌>>=◌ (without_fault r) (λ o. Ok (record { bytes = bytes; order = o; fields = orientation number ∷ [] }))) (told_order order number)
 
-no_ok : {X : Type 0} (why : Why) (x : X) → ◌≡◌ {A = Result X Why} (Err why) (Ok x) → ⊥
+no_ok : {X : Type 0} (why : Reason) (x : X) → ◌≡◌ {A = Result X Reason} (Err why) (Ok x) → ⊥
 no_ok why x e = cc
 
 -- a file that is written again, by what is kept of it
@@ -63,7 +63,7 @@ pub kept_answers : (format : Format) (put : Option (List ℕ)) (file new : List 
 kept_answers format put file new law r f k e short =
     rewritten_answers format put file new law r f
     (with_found_whole (is_some put) (as_read (rewritten format Metadata put file)) new
-    (sym (ap (λ (x : Result (Option (List ℕ)) Why). x >>= (λ put. with_found (is_some put) (as_read (rewritten format Metadata put file)))) k) ∙ scrubbed_so format file new r f e)) short
+    (sym (ap (λ (x : Result (Option (List ℕ)) Reason). x >>= (λ put. with_found (is_some put) (as_read (rewritten format Metadata put file)))) k) ∙ scrubbed_so format file new r f e)) short
 
 -- the orientation alone is read
 pub orientation_kept : (format : Format) (file new : List ℕ) (contents : Contents) (number : ℕ) → ((remove : Remove) (put : Option (List ℕ)) (bytes : List ℕ) → IsFound remove put bytes)
@@ -91,7 +91,7 @@ orientation_kept format file new contents number law r f read told small e short
         (alone_read contents.order number small)
     by_fault (Some cause) w =
         absurd (no_ok (reading (write_refusal cause)) (whole new)
-        (sym (ap (λ (x : Result (Option (List ℕ)) Why). x >>= (λ put. with_found (is_some put) (as_read (rewritten format Metadata put file)))) (made (Some cause) w)) ∙ scrubbed_so format file new r f e))
+        (sym (ap (λ (x : Result (Option (List ℕ)) Reason). x >>= (λ put. with_found (is_some put) (as_read (rewritten format Metadata put file)))) (made (Some cause) w)) ∙ scrubbed_so format file new r f e))
 
 -- where nothing is kept, nothing is read
 pub nothing_kept : (format : Format) (file new : List ℕ) → ((remove : Remove) (put : Option (List ℕ)) (bytes : List ℕ) → IsFound remove put bytes)

@@ -11,15 +11,15 @@ use Rattle.exif_scrub.specs.declared.heif.fault.Fault as heif_faults
 use Rattle.exif_scrub.proofs.Left.{settled_known}
 use Rattle.exif_change.specs.Changed.{Change, Undone, still_there}
 use Rattle.exif_change.specs.Changes.{erased, heif_emptied, heif_left, scrubbed_as}
-use Rattle.exif_change.specs.Refusals.{Why, heif_fault, ◌>>=◌}
+use Rattle.exif_change.specs.Refusals.{Reason, heif_fault, ◌>>=◌}
 use Rattle.exif_change.specs.declared.scrubbing.Removed.{Removed}
 use Rattle.exif_change.specs.declared.scrubbing.Removed.TheVariants as removed
 use Rattle.exif_change_laws.specs.Leaving.{parts_left, takes_metadata}
 
-no_ok : {X : Type 0} (why : Why) (x : X) → ◌≡◌ {A = Result X Why} (Err why) (Ok x) → ⊥
+no_ok : {X : Type 0} (why : Reason) (x : X) → ◌≡◌ {A = Result X Reason} (Err why) (Ok x) → ⊥
 no_ok why x e = cc
 
-ok_same : (x y : Change) → ◌≡◌ {A = Result Change Why} (Ok x) (Ok y) → x ≡ y
+ok_same : (x y : Change) → ◌≡◌ {A = Result Change Reason} (Ok x) (Ok y) → x ≡ y
 ok_same x y e = cc
 
 -- a part among more is known all the same
@@ -53,7 +53,7 @@ left_known change new (Ok parts) s e =
     (all_more change.file (parts_left change.undone) parts (heif_inventory change.file) (settled_known change.file parts s)))
 left_known change new (Err fault) s e = absurd (no_ok (heif_fault fault) new e)
 
-made_known : (made : Result Change Why) (new : Change) → (made >>= λ change. heif_left change (heif.settled change.file)) ≡ Ok new → Known new
+made_known : (made : Result Change Reason) (new : Change) → (made >>= λ change. heif_left change (heif.settled change.file)) ≡ Ok new → Known new
 made_known (Ok change) new e = left_known change new (heif.settled change.file) refl e
 made_known (Err why) new e = absurd (no_ok why new e)
 

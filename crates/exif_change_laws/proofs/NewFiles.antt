@@ -46,7 +46,7 @@ use Rattle.exif_change.specs.Changed.{Change, whole}
 use Rattle.exif_change.specs.Growing.{created_for, created_in, grown_by, grown_file, longest, naming, new_data, put, too_long_for, unless_fault}
 use Rattle.exif_change.specs.InPlace.{field_set, fit_by, fitting_set, setting}
 use Rattle.exif_change.specs.Reading.{data_contents, entry_limit}
-use Rattle.exif_change.specs.Refusals.{Why, as_edited, as_read, no_field, not_of_its_type, out_of_range, reading, unknown_format, ◌>>=◌}
+use Rattle.exif_change.specs.Refusals.{Reason, as_edited, as_read, no_field, not_of_its_type, out_of_range, reading, unknown_format, ◌>>=◌}
 use Rattle.exif_change.specs.Rewriting.{rewritten}
 use Rattle.exif_change.specs.Setting.{assigned_behind, assigned_fields, field_for, field_or, field_typed, fields_or_none, is_assigned, primary, set_as, set_file, set_rest, with_assigned, with_field}
 use Rattle.exif_change.proofs.Scrubbed.{jpeg_answers, webp_answers}
@@ -56,10 +56,10 @@ use Rattle.exif_change_laws.proofs.ScrubbedFiles.{webp_front}
 use Rattle.exif_change_laws.proofs.SetAssigned.{distinct_fields}
 use Rattle.exif_change_laws.proofs.SetNames.{AreDistinct}
 
-no_ok : {X : Type 0} (why : Why) (x : X) → ◌≡◌ {A = Result X Why} (Err why) (Ok x) → ⊥
+no_ok : {X : Type 0} (why : Reason) (x : X) → ◌≡◌ {A = Result X Reason} (Err why) (Ok x) → ⊥
 no_ok why x e = cc
 
-ok_same : {X : Type 0} (x y : X) → ◌≡◌ {A = Result X Why} (Ok x) (Ok y) → x ≡ y
+ok_same : {X : Type 0} (x y : X) → ◌≡◌ {A = Result X Reason} (Ok x) (Ok y) → x ≡ y
 ok_same x y e = cc
 
 -- ---- the fields of assignments
@@ -280,7 +280,7 @@ new_file typed law assignments g gs file new what long short none are e = record
         (λ data' h. webp_answers Exif (Some data') file new law (webp_front file is) h short) e
 
     by_format : (o : Option Format) → format_in file ≡ o
-        → ◌≡◌ {A = Result Change Why} (elim o [ Some format ↦ set_as format assignments file | None ↦ Err unknown_format ]) (Ok (whole new))
+        → ◌≡◌ {A = Result Change Reason} (elim o [ Some format ↦ set_as format assignments file | None ↦ Err unknown_format ]) (Ok (whole new))
         → HasNewData (g ∷ gs) new
     by_format None is e = absurd (no_ok unknown_format (whole new) e)
     by_format (Some format) is e =

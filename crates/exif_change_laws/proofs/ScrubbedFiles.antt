@@ -37,7 +37,7 @@ use Rattle.exif_scrub.proofs.Stays.{emptied_long}
 use Rattle.exif_change.specs.Changed.{Change, whole}
 use Rattle.exif_change.specs.Changes.{erased, heif_emptied, heif_left, if_edited, scrubbed, scrubbed_as}
 use Rattle.exif_change.specs.Reading.{Contents, data_contents, entry_limit, file_contents}
-use Rattle.exif_change.specs.Refusals.{Why, as_read, heif_fault, unknown_format, ◌>>=◌}
+use Rattle.exif_change.specs.Refusals.{Reason, as_read, heif_fault, unknown_format, ◌>>=◌}
 use Rattle.exif_change.specs.Rewriting.{rewritten}
 use Rattle.exif_change.specs.declared.scrubbing.Removed.{Removed}
 use Rattle.exif_change.specs.declared.scrubbing.Removed.TheVariants as removed
@@ -46,7 +46,7 @@ use Rattle.exif_change.proofs.Scrubbed.{jpeg_answers, webp_answers}
 use Rattle.exif_change_laws.specs.Scrubbed.{HasNoField, is_rewritten}
 use Rattle.exif_change_laws.proofs.NoField.{none_in_data}
 
-no_ok : {X : Type 0} (why : Why) (x : X) → ◌≡◌ {A = Result X Why} (Err why) (Ok x) → ⊥
+no_ok : {X : Type 0} (why : Reason) (x : X) → ◌≡◌ {A = Result X Reason} (Err why) (Ok x) → ⊥
 no_ok why x e = cc
 
 none_some : {X : Type 0} (x : X) → ◌≡◌ {A = Option X} None (Some x) → ⊥
@@ -169,9 +169,9 @@ refused_so file r e = by_located (located_answer file) refl e
     by_located (Err s) h e = refused_alike file s h ∙ ap (λ (x : Refusal). let y : Result (List ℕ) Refusal = Err x in y) (err_same s e)
     by_located (Ok at) h e = absurd (by_picture at (takes_picture EraseAll at.format) e)
 
-whole_same : (a b : List ℕ) → ◌≡◌ {A = Result Change Why} (Ok (whole a)) (Ok (whole b)) → a ≡ b
+whole_same : (a b : List ℕ) → ◌≡◌ {A = Result Change Reason} (Ok (whole a)) (Ok (whole b)) → a ≡ b
 whole_same a b e =
-    let of : Result Change Why → List ℕ = λ x. elim x [ Ok change ↦ change.file | Err why ↦ b ] in
+    let of : Result Change Reason → List ℕ = λ x. elim x [ Ok change ↦ change.file | Err why ↦ b ] in
     ap of e
 
 -- a file whose fields were all erased, or that had none
@@ -214,11 +214,11 @@ erased_read file new laws short e = by_edit (edited_file entry_limit EraseAll fi
 
 -- a change of a HEIF file that left nothing is whole
 left_whole : (change : Change) (left : Result (List Part) heif_faults.Fault) (new : List ℕ) → heif_left change left ≡ Ok (whole new)
-    → ◌≡◌ {A = Result Change Why} (Ok change) (Ok (whole new))
+    → ◌≡◌ {A = Result Change Reason} (Ok change) (Ok (whole new))
 left_whole change (Ok parts) new e = with_parts_whole parts (Ok change) new e
 left_whole change (Err fault) new e = absurd (no_ok (heif_fault fault) (whole new) e)
 
-heif_whole : (made : Result Change Why) (new : List ℕ) → (made >>= λ change. heif_left change (heif.settled change.file)) ≡ Ok (whole new) → made ≡ Ok (whole new)
+heif_whole : (made : Result Change Reason) (new : List ℕ) → (made >>= λ change. heif_left change (heif.settled change.file)) ≡ Ok (whole new) → made ≡ Ok (whole new)
 heif_whole (Ok change) new e = left_whole change (heif.settled change.file) new e
 heif_whole (Err why) new e = absurd (no_ok why (whole new) e)
 
@@ -237,7 +237,7 @@ pub scrubbed_read : (file new : List ℕ) → ((remove : Remove) (put : Option (
 scrubbed_read file new law limits other short small e = by_format (format_in file) refl e
   where
     by_format : (o : Option Format) → format_in file ≡ o
-        → ◌≡◌ {A = Result Change Why} (elim o [ Some format ↦ scrubbed_as format removed.Metadata file | None ↦ Err unknown_format ]) (Ok (whole new))
+        → ◌≡◌ {A = Result Change Reason} (elim o [ Some format ↦ scrubbed_as format removed.Metadata file | None ↦ Err unknown_format ]) (Ok (whole new))
         → HasNoField (file_contents new)
     by_format None f e = absurd (no_ok unknown_format (whole new) e)
     by_format (Some Tiff) f e = absurd (other f)
@@ -247,4 +247,4 @@ scrubbed_read file new law limits other short small e = by_format (format_in fil
 
 -- what is made of a file by its format
 pub scrubbed_by : (format : Format) (removed : Removed) (file : List ℕ) → format_in file ≡ Some format → scrubbed removed file ≡ scrubbed_as format removed file
-scrubbed_by format removed file f = ap (λ (o : Option Format). elim o as (λ _. Result Change Why) [ Some format ↦ scrubbed_as format removed file | None ↦ Err unknown_format ]) f
+scrubbed_by format removed file f = ap (λ (o : Option Format). elim o as (λ _. Result Change Reason) [ Some format ↦ scrubbed_as format removed file | None ↦ Err unknown_format ]) f

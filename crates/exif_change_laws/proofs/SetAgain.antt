@@ -33,7 +33,7 @@ use Rattle.exif_assign.specs.declared.spelled.ValueError.{ValueError}
 use Rattle.exif_assign.specs.declared.spelled.ValueError.TheVariants as value_error
 use Rattle.exif_change.specs.Changed.{Change, whole}
 use Rattle.exif_change.specs.Reading.{Contents, file_contents, fields_in}
-use Rattle.exif_change.specs.Refusals.{Why, no_field, not_of_its_type, out_of_range, unknown_format, ◌>>=◌}
+use Rattle.exif_change.specs.Refusals.{Reason, no_field, not_of_its_type, out_of_range, unknown_format, ◌>>=◌}
 use Rattle.exif_change.specs.SetLaws.{KeepsOthers}
 use Rattle.exif_change.specs.Setting.{assigned_behind, assigned_fields, field_for, field_or, field_typed, fields_or_none, known_type, primary, set_as, set_file, type_for}
 use Rattle.exif_change.proofs.SetInPlace.{wider}
@@ -43,7 +43,7 @@ use Rattle.exif_change_laws.proofs.SetAssigned.{WasRead, assigned_all, traced_fi
 use Rattle.exif_change_laws.proofs.ShiftedFiles.{contents_are}
 use Rattle.exif_change_laws.proofs.SetMade.{IsMade, all_both, all_made, last_text, names_are}
 
-no_ok : {X : Type 0} (why : Why) (x : X) → ◌≡◌ {A = Result X Why} (Err why) (Ok x) → ⊥
+no_ok : {X : Type 0} (why : Reason) (x : X) → ◌≡◌ {A = Result X Reason} (Err why) (Ok x) → ⊥
 no_ok why x e = cc
 
 -- ---- types
@@ -64,7 +64,7 @@ was_spelled fields tag text g e = by_type (type_for fields tag) refl e
     by_value : (type : FieldType) (x : Result Value ValueError) → type_for fields tag ≡ Some type
         → value_in tag type text ≡ x → field_or tag x ≡ Ok g → WasSpelled fields tag text g
     by_value type (Ok v) t s e =
-        let same : v ≡ g.value = ap (λ (r : Result Field Why). elim r as (λ _. Value) [ Ok f ↦ f.value | Err why ↦ v ]) e in
+        let same : v ≡ g.value = ap (λ (r : Result Field Reason). elim r as (λ _. Value) [ Ok f ↦ f.value | Err why ↦ v ]) e in
         record { type = type; known = t; value = s ∙ ap (λ w. Ok w) same }
     by_value type (Err value_error.NotOfItsType) t s e = absurd (no_ok (not_of_its_type tag) g e)
     by_value type (Err value_error.OutOfRange) t s e = absurd (no_ok (out_of_range tag) g e)
@@ -229,7 +229,7 @@ sets_made : (file : List ℕ) (assignments : List Assignment) (new : List ℕ)
 sets_made file assignments new e = by_format (format_in file) e
   where
     by_format : (o : Option Format)
-        → ◌≡◌ {A = Result Change Why} (elim o [ Some format ↦ set_as format assignments file | None ↦ Err unknown_format ]) (Ok (whole new))
+        → ◌≡◌ {A = Result Change Reason} (elim o [ Some format ↦ set_as format assignments file | None ↦ Err unknown_format ]) (Ok (whole new))
         → (sets : List Field × List Field) × (assigned_fields file assignments ≡ Ok sets)
     by_format None e = absurd (no_ok unknown_format (whole new) e)
     by_format (Some format) e = let b = bound (assigned_fields file assignments) _ (whole new) e in (b.0, b.1)

@@ -34,7 +34,7 @@ use Rattle.exif_assign.specs.declared.spelled.ValueError.TheVariants as value_er
 use Rattle.exif_change.specs.Changed.{Change, whole}
 use Rattle.exif_change.specs.InPlace.{fitting_set}
 use Rattle.exif_change.specs.Reading.{Contents, data_contents, entry_limit, fields_in, file_contents, without_fault}
-use Rattle.exif_change.specs.Refusals.{Why, as_edited, no_field, not_of_its_type, out_of_range, unknown_format, ◌>>=◌}
+use Rattle.exif_change.specs.Refusals.{Reason, as_edited, no_field, not_of_its_type, out_of_range, unknown_format, ◌>>=◌}
 use Rattle.exif_change.specs.Setting.{assigned_behind, assigned_fields, field_for, field_or, field_typed, fields_or_none, is_assigned, occurs_again, primary, set_as, set_file, set_rest, type_for, with_assigned, with_field}
 use Rattle.exif_change.proofs.SetKept.{IsKnown, bound, edited_ok}
 use Rattle.exif_change_laws.specs.Assigned.{GivesAssigned}
@@ -43,7 +43,7 @@ use Rattle.exif_change_laws.proofs.SetNames.{AreDistinct, IsOnce, name_apart, or
 use Rattle.exif_change_laws.proofs.SetTogether.{assigned_in}
 use Rattle.exif_change_laws.proofs.ShiftedFiles.{contents_are, fields_same, shown_in}
 
-err_ok : {X : Type 0} (why : Why) (x : X) → ◌≡◌ {A = Result X Why} (Err why) (Ok x) → ⊥
+err_ok : {X : Type 0} (why : Reason) (x : X) → ◌≡◌ {A = Result X Reason} (Err why) (Ok x) → ⊥
 err_ok why x e = cc
 
 -- ---- one field more
@@ -129,7 +129,7 @@ or_is_for tag (Ok value) f e =
     subst (IsFor tag) (same (record { tag = tag; ifd_num = primary; value = value }) e)
     (record { tag_is = refl; image = refl })
   where
-    same : (g : Field) → ◌≡◌ {A = Result Field Why} (Ok g) (Ok f) → g ≡ f
+    same : (g : Field) → ◌≡◌ {A = Result Field Reason} (Ok g) (Ok f) → g ≡ f
     same g e = cc
 or_is_for tag (Err value_error.NotOfItsType) f e = absurd (err_ok (not_of_its_type tag) f e)
 or_is_for tag (Err value_error.OutOfRange) f e = absurd (err_ok (out_of_range tag) f e)
@@ -187,13 +187,13 @@ good_set : (fields : List Field) (assignments : List Assignment) (sets made : Li
     → AreGood fields [] made
 good_set fields [] sets made g e = subst (AreGood fields []) (same e) g
   where
-    same : ◌≡◌ {A = Result (List Field × List Field) Why} (Ok sets) (Ok made) → sets ≡ made
+    same : ◌≡◌ {A = Result (List Field × List Field) Reason} (Ok sets) (Ok made) → sets ≡ made
     same e = cc
 good_set fields (a ∷ later) sets made g e =
     let b = bound (with_assigned fields a later sets) (assigned_behind fields later) made e in
     good_set fields later b.0 made (by_later (is_assigned later a.tag) refl b.0 b.1) b.2
   where
-    same : (x y : List Field × List Field) → ◌≡◌ {A = Result (List Field × List Field) Why} (Ok x) (Ok y) → x ≡ y
+    same : (x y : List Field × List Field) → ◌≡◌ {A = Result (List Field × List Field) Reason} (Ok x) (Ok y) → x ≡ y
     same x y e = cc
 
     by_later : (t : Bool) → is_assigned later a.tag ≡ t → (next : List Field × List Field)
@@ -320,7 +320,7 @@ assigned_all assignments sets file new old law within short small read are e =
         (ap fields_in (sym (within 1000000 old.bytes true few)) ∙ contents_are old.bytes old w.reads) in
         subst (λ fs. All (IsOnce fs) sets.0) (sym same) good.once
 
-    none_some : (o : Why) → ◌≡◌ {A = Result Change Why} (Err o) (Ok (whole new)) → ⊥
+    none_some : (o : Reason) → ◌≡◌ {A = Result Change Reason} (Err o) (Ok (whole new)) → ⊥
     none_some o e = cc
 
     known : (f : Format) → format_in file ≡ Some f → IsKnown f file
@@ -330,7 +330,7 @@ assigned_all assignments sets file new old law within short small read are e =
     known WebP is = webp_front file is
 
     by_format : (o : Option Format) → format_in file ≡ o
-        → ◌≡◌ {A = Result Change Why} (elim o [ Some format ↦ set_as format assignments file | None ↦ Err unknown_format ]) (Ok (whole new))
+        → ◌≡◌ {A = Result Change Reason} (elim o [ Some format ↦ set_as format assignments file | None ↦ Err unknown_format ]) (Ok (whole new))
         → GivesAssigned (sets.0 ++ sets.1) old.bytes (container_answer new)
     by_format None is e = absurd (none_some unknown_format e)
     by_format (Some format) is e =

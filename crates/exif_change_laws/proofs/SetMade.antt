@@ -10,7 +10,7 @@ use Rattle.exif_types.specs.declared.tag.Tag.{Tag}
 use Rattle.exif_grow.specs.FieldPromises.{is_set, same_name}
 use Rattle.exif_assign.specs.Assigning.{parts_of}
 use Rattle.exif_assign.specs.declared.assignment.Assignment.{Assignment}
-use Rattle.exif_change.specs.Refusals.{Why, ◌>>=◌}
+use Rattle.exif_change.specs.Refusals.{Reason, ◌>>=◌}
 use Rattle.exif_change.specs.Setting.{assigned_behind, field_for, is_assigned, occurs_again, primary, type_for, with_assigned, with_field}
 use Rattle.exif_change.proofs.SetKept.{bound}
 use Rattle.exif_change.proofs.SetWhole.{is_set_append}
@@ -22,7 +22,7 @@ abbrev pub in_primary : Field → Bool
 in_primary f = f.ifd_num.0 == 0
 
 sets_same : (x y : List Field × List Field)
-    → ◌≡◌ {A = Result (List Field × List Field) Why} (Ok x) (Ok y) → x ≡ y
+    → ◌≡◌ {A = Result (List Field × List Field) Reason} (Ok x) (Ok y) → x ≡ y
 sets_same x y e = cc
 
 -- one of two pairs of lists

@@ -39,7 +39,7 @@ use Rattle.exif_datetime.specs.declared.shift.Unmoved.TheVariants.{Blank, Invali
 use Rattle.exif_change.specs.Changed.{Change, Undone, unmoved, unset, whole}
 use Rattle.exif_change.specs.InPlace.{field_set}
 use Rattle.exif_change.specs.Reading.{Contents, data_contents, entry_limit, fields_in, without_fault}
-use Rattle.exif_change.specs.Refusals.{Why, as_read, no_date, reading as refused, ◌>>=◌}
+use Rattle.exif_change.specs.Refusals.{Reason, as_read, no_date, reading as refused, ◌>>=◌}
 use Rattle.exif_change.specs.Setting.{primary}
 use Rattle.exif_change.specs.Shifting.{date, date_moved, date_set, dates_moved, has_dates, shifted, tag_moved, tags_moved, tags_of}
 use Rattle.exif_change.specs.declared.dates.Dates.{Dates}
@@ -304,14 +304,14 @@ contents_shifted : (by : ClockShift) (which : Dates) (file new bytes : List ℕ)
     → dates_moved by which contents.fields file ≡ Ok (whole new) → WasShifted by which file new
 contents_shifted by which file new bytes contents within short held read e = by_dates (has_dates contents.fields (tags_of which)) refl e
   where
-    err_ok : (why : Why) → ◌≡◌ {A = Result Change Why} (Err why) (Ok (whole new)) → ⊥
+    err_ok : (why : Reason) → ◌≡◌ {A = Result Change Reason} (Err why) (Ok (whole new)) → ⊥
     err_ok why e = cc
 
     by_dates : (b : Bool) → has_dates contents.fields (tags_of which) ≡ b
-        → ◌≡◌ {A = Result Change Why} (if b then Ok (tags_moved by contents.fields (tags_of which) (whole file)) else Err no_date) (Ok (whole new)) → WasShifted by which file new
+        → ◌≡◌ {A = Result Change Reason} (if b then Ok (tags_moved by contents.fields (tags_of which) (whole file)) else Err no_date) (Ok (whole new)) → WasShifted by which file new
     by_dates false d e = absurd (err_ok no_date e)
     by_dates true d e =
-        let of : Result Change Why → Change = λ x. elim x [ Ok change ↦ change | Err why ↦ whole new ] in
+        let of : Result Change Reason → Change = λ x. elim x [ Ok change ↦ change | Err why ↦ whole new ] in
         let moved : tags_moved by contents.fields (tags_of which) (whole file) ≡ whole new = ap of e in
         let first = first_read by contents.fields (tags_of which) file new bytes short held d moved in
         let are = reads_are bytes first.read first.reads in
@@ -334,7 +334,7 @@ pub was_shifted : (by : ClockShift) (which : Dates) (file new : List ℕ) → ((
     → shifted by which file ≡ Ok (whole new) → WasShifted by which file new
 was_shifted by which file new within short e = by_container (container_answer file) refl e
   where
-    err_ok : (why : Why) → ◌≡◌ {A = Result Change Why} (Err why) (Ok (whole new)) → ⊥
+    err_ok : (why : Reason) → ◌≡◌ {A = Result Change Reason} (Err why) (Ok (whole new)) → ⊥
     err_ok why e = cc
 
     by_contents : (bytes : List ℕ) (r : Result Contents Refusal) → container_answer file ≡ Ok bytes → data_contents bytes ≡ r

@@ -6,9 +6,9 @@ use Rattle.exif_inventory.specs.declared.kind.Kind.TheVariants.{Picture}
 use Rattle.exif_inventory.specs.declared.part.Part.{Part}
 use Rattle.exif_privacy.specs.Files.{parts_of}
 use Rattle.exif_privacy.specs.Judging.{judged}
-use Rattle.exif_privacy.specs.declared.stays.Why.{Why}
-use Rattle.exif_privacy.specs.declared.stays.Why.TheVariants.{GpsVersion, InExif, StillThere}
-use Rattle.exif_data_locations.specs.declared.why.Why.TheVariants.{MakerNote}
+use Rattle.exif_privacy.specs.declared.remaining.Reason.{Reason}
+use Rattle.exif_privacy.specs.declared.remaining.Reason.TheVariants.{GpsVersion, InExif, StillThere}
+use Rattle.exif_data_locations.specs.declared.reason.Reason.TheVariants.{MakerNote}
 use Rattle.exif_locations.specs.declared.unread.Unread.TheVariants.{Keep}
 use Rattle.exif_scrub.specs.TiffScrubbing.{is_settled}
 use Rattle.exif_check.specs.declared.checked.Checked.{Checked}
@@ -25,36 +25,36 @@ location_among Absent other = other
 
 -- what a reason says of a part: erasing would change it, and it holds a location then, unless that is
 -- the version of GPS data alone; or it may hold one
-abbrev pub weight : Why → Location
+abbrev pub weight : Reason → Location
 weight StillThere = Present
 weight GpsVersion = Absent
 weight why = Unknown
 
 -- the heaviest of what these reasons say, behind another one
-abbrev pub location_by_from : Location → List Why → Location
+abbrev pub location_by_from : Location → List Reason → Location
 location_by_from so_far [] = so_far
 location_by_from so_far (why ∷ whys) = location_by_from (location_among so_far (weight why)) whys
 
 -- whether a part with these reasons holds a location
-abbrev pub location_by : List Why → Location
+abbrev pub location_by : List Reason → Location
 location_by whys = location_by_from Absent whys
 
 -- whether a reason is that of a maker note
-abbrev pub is_maker_note : Why → Bool
+abbrev pub is_maker_note : Reason → Bool
 is_maker_note (InExif MakerNote) = true
 is_maker_note _ = false
 
 -- whether a reason is no other one for which a part may hold a location
-abbrev pub is_no_other : Why → Bool
+abbrev pub is_no_other : Reason → Bool
 is_no_other GpsVersion = true
 is_no_other why = is_maker_note why
 
 -- whether a part with these reasons may hold a location in a maker note only
-abbrev pub only_maker_note : List Why → Bool
+abbrev pub only_maker_note : List Reason → Bool
 only_maker_note whys = list_any is_maker_note whys && list_all is_no_other whys
 
 -- a part of a file with its judgement
-abbrev pub part_checked : Part × List Why → Checked
+abbrev pub part_checked : Part × List Reason → Checked
 part_checked (part, whys) =
     record { part = part; location = location_by whys; maker_note = only_maker_note whys }
 

@@ -10,7 +10,7 @@ ghost use Rattle.exif_check.specs.Checking.{checked, is_maker_note, is_no_other,
 
 use exif_formats::{PictureFormat, format_of};
 use exif_inventory::{Kind, Part};
-use exif_privacy::{Reasons, Unread, Why, parts_of};
+use exif_privacy::{Reason, Reasons, Unread, parts_of};
 use exif_scrub::tiff::is_settled;
 use exif_types::Error;
 use std::alloc::{AllocError, Global};
@@ -38,18 +38,18 @@ pub struct Checked {
 }
 
 // What a reason says of a part.
-fn weight(why: Why) -> Location
+fn weight(why: Reason) -> Location
     ensures { result ≡ weight why }
 {
     match why {
-        Why::StillThere => Location::Present,
-        Why::GpsVersion => Location::Absent,
+        Reason::StillThere => Location::Present,
+        Reason::GpsVersion => Location::Absent,
         _ => Location::Unknown,
     }
 }
 
 // Whether a part with these reasons holds a location.
-fn location_by(whys: &[Why]) -> Location
+fn location_by(whys: &[Reason]) -> Location
     ensures { result ≡ location_by whys.now }
 {
     let mut all = Location::Absent;
@@ -60,38 +60,38 @@ fn location_by(whys: &[Why]) -> Location
 }
 
 // Whether a reason is that of a maker note.
-fn is_maker_note(why: Why) -> bool
+fn is_maker_note(why: Reason) -> bool
     ensures { result ≡ is_maker_note why }
 {
-    matches!(why, Why::InExif(exif_data_locations::Why::MakerNote))
+    matches!(why, Reason::InExif(exif_data_locations::Reason::MakerNote))
 }
 
 // Whether a reason is no other one for which a part may hold a location.
-fn is_no_other(why: Why) -> bool
+fn is_no_other(why: Reason) -> bool
     ensures { result ≡ is_no_other why }
 {
     match why {
-        Why::GpsVersion => true,
+        Reason::GpsVersion => true,
         _ => is_maker_note(why),
     }
 }
 
 // Whether one of these reasons is that of a maker note.
-fn any_maker_note(whys: &[Why]) -> bool
+fn any_maker_note(whys: &[Reason]) -> bool
     ensures { result ≡ list_any is_maker_note whys.now }
 {
     whys.iter().any(|why| is_maker_note(*why))
 }
 
 // Whether no other one is among them.
-fn no_other(whys: &[Why]) -> bool
+fn no_other(whys: &[Reason]) -> bool
     ensures { result ≡ list_all is_no_other whys.now }
 {
     whys.iter().all(|why| is_no_other(*why))
 }
 
 // Whether a part with these reasons may hold a location in a maker note only.
-fn only_maker_note(whys: &[Why]) -> bool
+fn only_maker_note(whys: &[Reason]) -> bool
     ensures { result ≡ only_maker_note whys.now }
 {
     any_maker_note(whys) && no_other(whys)

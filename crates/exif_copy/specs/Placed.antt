@@ -6,7 +6,7 @@ use Rattle.exif_containers.specs.declared.container.Format.TheVariants as known
 use Rattle.exif_formats.specs.declared.format.PictureFormat.{PictureFormat}
 use Rattle.exif_formats.specs.declared.format.PictureFormat.TheVariants.{Container, Png, JpegXl}
 use Rattle.exif_change.specs.Changed.{Change}
-use Rattle.exif_change.specs.Refusals.{Why, as_read, reading, unknown_format}
+use Rattle.exif_change.specs.Refusals.{Reason, as_read, reading, unknown_format}
 use Rattle.exif_change.specs.Rewriting.{if_whole, rewritten_jpeg, rewritten_webp, stream_ended}
 use Rattle.exif_parts.specs.Jxl.{jxl_rewritten}
 use Rattle.exif_parts.specs.Png.{png_rewritten}
@@ -16,13 +16,13 @@ abbrev pub placed_in_jxl : List ℕ → List ℕ → Result Change Refusal
 placed_in_jxl data' file = stream_ended (jxl_rewritten Exif (Some data') file)
 
 -- other files are refused
-abbrev pub target_refused : Why
+abbrev pub target_refused : Reason
 target_refused =
     reading
     (not_supported (codes "Exif data are copied into JPEG, WebP, PNG and JPEG XL files only"))
 
 -- the file of a format with these Exif data in place of its own
-abbrev pub placed : Option PictureFormat → List ℕ → List ℕ → Result Change Why
+abbrev pub placed : Option PictureFormat → List ℕ → List ℕ → Result Change Reason
 placed None data' file = Err unknown_format
 placed (Some (Container known.Jpeg)) data' file = as_read (rewritten_jpeg Exif (Some data') file)
 placed (Some (Container known.WebP)) data' file = as_read (rewritten_webp Exif (Some data') file)

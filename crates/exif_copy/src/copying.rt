@@ -82,7 +82,7 @@ fn copied_shaped(alloc: Global, exif: &Exif, to: &[u8], shape: Shape) -> Result<
 /// [`rewrite_png`](exif_parts::rewrite_png) and [`rewrite_jxl`](exif_parts::rewrite_jxl) put
 /// it. Data that are too long for the file are refused with [`TooBig`](exif::Error::TooBig): a JPEG
 /// file takes 65,527 bytes. Of a JPEG or JPEG XL file that is cut off what is there is kept, and
-/// [`Left::CutOff`](exif_change::Left::CutOff) is answered.
+/// [`Residual::CutOff`](exif_change::Residual::CutOff) is answered.
 ///
 /// With [`Shape::Source`] the data are the same bytes. With [`Shape::Target`] they describe `to`:
 /// of the fields of the primary image Orientation is what the Exif data of `to` tell, or else 1,

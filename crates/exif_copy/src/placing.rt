@@ -11,7 +11,7 @@ ghost use Rattle.exif_parts.specs.Png.{png_rewritten};
 ghost use Rattle.exif_copy.specs.Placed.{placed, placed_in_jxl, target_refused};
 
 use exif::Error;
-use exif_change::{Changed, Left, Refusal};
+use exif_change::{Changed, Refusal, Residual};
 use exif_formats::{Format, PictureFormat};
 use exif_parts::{Ended, Rewritten, rewrite_jpeg, rewrite_jxl, rewrite_png, rewrite_webp};
 use exif_rewrite::Remove;
@@ -35,7 +35,7 @@ fn as_far(alloc: Global, new: Rewritten) -> Result<Changed, AllocError>
     let Rewritten { bytes, ended } = new;
     let mut changed = whole(alloc, bytes);
     if let Ended::Cut = ended {
-        changed.left.push(Left::CutOff)?;
+        changed.left.push(Residual::CutOff)?;
     }
     Ok(changed)
 }

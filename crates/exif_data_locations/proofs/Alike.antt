@@ -31,8 +31,8 @@ use Rattle.exif_data_locations.specs.Thumbnails.{if_same, read_thumbnail_erased,
 use Rattle.exif_data_locations.specs.Wanted.{held_field, new_value, wanted, wanted_fields, with_new}
 use Rattle.exif_data_locations.specs.declared.field.Holds.{Holds}
 use Rattle.exif_data_locations.specs.declared.region.Region.{Region}
-use Rattle.exif_data_locations.specs.declared.why.Why.{Why}
-use Rattle.exif_data_locations.specs.declared.why.Why.TheVariants.{GpsNotFollowed, NotChanged, Shared, Thumbnail}
+use Rattle.exif_data_locations.specs.declared.reason.Reason.{Reason}
+use Rattle.exif_data_locations.specs.declared.reason.Reason.TheVariants.{GpsNotFollowed, NotChanged, Shared, Thumbnail}
 
 -- ---- fields
 
@@ -71,9 +71,9 @@ record After (read : Read) (bytes : List ℕ) : Type 0 where
 unchanged : (read : Read) (bytes : List ℕ) → reading bytes ≡ Ok read → After read bytes
 unchanged read bytes e = record { found = read; reads = e; fields = all_themselves read.fields; faults = refl }
 
-if_after : (t : Bool) (read : Read) (entries : List EntryOffset) (old new : List ℕ) (whys : List Why) → reading old ≡ Ok read
+if_after : (t : Bool) (read : Read) (entries : List EntryOffset) (old new : List ℕ) (whys : List Reason) → reading old ≡ Ok read
     → reads_as new (wanted read entries old new) ≡ t
-    → let made : List ℕ × List Why = if t then (new, whys) else (old, whys ++ Shared ∷ []) in After read made.0
+    → let made : List ℕ × List Reason = if t then (new, whys) else (old, whys ++ Shared ∷ []) in After read made.0
 if_after true read entries old new whys e h = record {
   found = wanted read entries old new;
   reads = reads_so new (wanted read entries old new) h;
@@ -82,16 +82,16 @@ if_after true read entries old new whys e h = record {
 }
 if_after false read entries old new whys e h = unchanged read old e
 
-checked_after : (unread : Unread) (regions : List Region) (read : Read) (entries : List EntryOffset) (bytes : List ℕ) (whys : List Why) → reading bytes ≡ Ok read
+checked_after : (unread : Unread) (regions : List Region) (read : Read) (entries : List EntryOffset) (bytes : List ℕ) (whys : List Reason) → reading bytes ≡ Ok read
     → After read (checked unread read entries bytes regions whys).0
 checked_after unread [] read entries bytes whys e = unchanged read bytes e
 checked_after unread (r ∷ regions) read entries bytes whys e =
     let made = regions_erased unread (r ∷ regions) (bytes, whys) in
     if_after (reads_as made.0 (wanted read entries bytes made.0)) read entries bytes made.0 made.1 e refl
 
-fields_after : (unread : Unread) (bytes : List ℕ) (whys : List Why) (read : Read) → reading bytes ≡ Ok read → After read (fields_erased unread (bytes, whys)).0
+fields_after : (unread : Unread) (bytes : List ℕ) (whys : List Reason) (read : Read) → reading bytes ≡ Ok read → After read (fields_erased unread (bytes, whys)).0
 fields_after unread bytes whys read e =
-    subst (λ (x : Result Read Fault). After read (elim x as (λ _. List ℕ × List Why) [ Ok r ↦ read_erased unread r (map entry_of (located bytes)) bytes whys | Err fault ↦ (bytes, whys) ]).0) (sym e)
+    subst (λ (x : Result Read Fault). After read (elim x as (λ _. List ℕ × List Reason) [ Ok r ↦ read_erased unread r (map entry_of (located bytes)) bytes whys | Err fault ↦ (bytes, whys) ]).0) (sym e)
     (checked_after unread _ read (map entry_of (located bytes)) bytes _ e)
 
 -- ---- GPS data erased
@@ -121,38 +121,38 @@ erased_fewer old new read e h =
     })
 
 gps_fewer : (old : List ℕ) (read : Read) (r : Result (List ℕ) Cause) → reading old ≡ Ok read → limited_edit None EraseGps old ≡ r
-    → let made : List ℕ × List Why = elim r [ Ok new ↦ (new, noted_if (not (is_followed new)) GpsNotFollowed []) | Err cause ↦ (old, gps_refused cause ∷ []) ] in
+    → let made : List ℕ × List Reason = elim r [ Ok new ↦ (new, noted_if (not (is_followed new)) GpsNotFollowed []) | Err cause ↦ (old, gps_refused cause ∷ []) ] in
     Fewer read (gps_left r read.fields) made.0
 gps_fewer old read (Ok new) e h = erased_fewer old new read e h
 gps_fewer old read (Err cause) e h = record { found = read; reads = e; fields_are = refl; fewer = omega arith }
 
 -- ---- the thumbnail
 
-same_after : (s t : Bool) (read : Read) (old new : List ℕ) (whys : List Why) → reading old ≡ Ok read → reads_as new read ≡ t
-    → let made : List ℕ × List Why = if s then (old, whys) else (if t then (new, whys) else (old, whys ++ Shared ∷ [])) in reading made.0 ≡ Ok read
+same_after : (s t : Bool) (read : Read) (old new : List ℕ) (whys : List Reason) → reading old ≡ Ok read → reads_as new read ≡ t
+    → let made : List ℕ × List Reason = if s then (old, whys) else (if t then (new, whys) else (old, whys ++ Shared ∷ [])) in reading made.0 ≡ Ok read
 same_after true t read old new whys e h = e
 same_after false true read old new whys e h = reads_so new read h
 same_after false false read old new whys e h = e
 
-if_same_after : (read : Read) (old new : List ℕ) (whys : List Why) → reading old ≡ Ok read → reading (if_same read old new whys).0 ≡ Ok read
+if_same_after : (read : Read) (old new : List ℕ) (whys : List Reason) → reading old ≡ Ok read → reading (if_same read old new whys).0 ≡ Ok read
 if_same_after read old new whys e = same_after (bytes_eq old new) (reads_as new read) read old new whys e refl
 
-span_after : (unread : Unread) (span : Option Span) (read : Read) (bytes : List ℕ) (whys : List Why) → reading bytes ≡ Ok read
-    → let made : List ℕ × List Why = elim span [ Some s ↦ span_erased unread read bytes whys s | None ↦ (bytes, whys) ] in reading made.0 ≡ Ok read
+span_after : (unread : Unread) (span : Option Span) (read : Read) (bytes : List ℕ) (whys : List Reason) → reading bytes ≡ Ok read
+    → let made : List ℕ × List Reason = elim span [ Some s ↦ span_erased unread read bytes whys s | None ↦ (bytes, whys) ] in reading made.0 ≡ Ok read
 span_after unread None read bytes whys e = e
 span_after unread (Some span) read bytes whys e =
     let made = stretch_erased unread span.offset span.len bytes in
     if_same_after read bytes made.0 (noted_if made.1 Thumbnail whys) e
 
-thumbnail_after : (unread : Unread) (bytes : List ℕ) (whys : List Why) (read : Read) → reading bytes ≡ Ok read → reading (thumbnail_erased unread (bytes, whys)).0 ≡ Ok read
+thumbnail_after : (unread : Unread) (bytes : List ℕ) (whys : List Reason) (read : Read) → reading bytes ≡ Ok read → reading (thumbnail_erased unread (bytes, whys)).0 ≡ Ok read
 thumbnail_after unread bytes whys read e =
-    subst (λ (x : Result Read Fault). reading (elim x as (λ _. List ℕ × List Why) [ Ok r ↦ read_thumbnail_erased unread r bytes whys | Err fault ↦ (bytes, whys) ]).0 ≡ Ok read) (sym e)
+    subst (λ (x : Result Read Fault). reading (elim x as (λ _. List ℕ × List Reason) [ Ok r ↦ read_thumbnail_erased unread r bytes whys | Err fault ↦ (bytes, whys) ]).0 ≡ Ok read) (sym e)
     (span_after unread (thumbnail_span (length bytes) read.fields) read bytes whys e)
 
 -- ---- all
 
 alike_by : (unread : Unread) (x : Result (Unit {0}) Cause) (old : List ℕ) (read : Read) → reading old ≡ Ok read → within_limit entry_limit old ≡ x
-    → let made : List ℕ × List Why = elim x [ Ok _ ↦ thumbnail_erased unread (fields_erased unread (gps_erased old)) | Err cause ↦ (old, NotChanged ∷ []) ] in
+    → let made : List ℕ × List Reason = elim x [ Ok _ ↦ thumbnail_erased unread (fields_erased unread (gps_erased old)) | Err cause ↦ (old, NotChanged ∷ []) ] in
     (found : Read) × (reading made.0 ≡ Ok found) × AllZip IsKept (left_within x old read.fields) found.fields
     × (length found.faults ≤ length read.faults)
 alike_by unread (Err cause) old read e h = (read, e, all_themselves read.fields, omega arith)

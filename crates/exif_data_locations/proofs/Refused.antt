@@ -16,8 +16,8 @@ use Rattle.exif_locations.specs.declared.unread.Unread.{Unread}
 use Rattle.exif_data_locations.specs.Erasing.{entry_limit, fields_erased, gps_erased, gps_refused, is_followed, is_none_left, noted_if, own_erased, read_erased}
 use Rattle.exif_data_locations.specs.Locations.{data_erased}
 use Rattle.exif_data_locations.specs.Thumbnails.{read_thumbnail_erased, thumbnail_erased}
-use Rattle.exif_data_locations.specs.declared.why.Why.{Why}
-use Rattle.exif_data_locations.specs.declared.why.Why.TheVariants.{GpsNotFollowed, NotChanged}
+use Rattle.exif_data_locations.specs.declared.reason.Reason.{Reason}
+use Rattle.exif_data_locations.specs.declared.reason.Reason.TheVariants.{GpsNotFollowed, NotChanged}
 
 -- no GPS pointer is followed in data that can't be read
 pub none_followed : (bytes : List ℕ) (fault : Fault) → reading bytes ≡ Err fault
@@ -27,7 +27,7 @@ none_followed bytes fault h =
     (left_fault (stop.Fault fault) bytes (error.Header fault) h refl)
 
 -- GPS data by what erases them
-abbrev gps_by : List ℕ → Result (List Patch) Cause → List ℕ × List Why
+abbrev gps_by : List ℕ → Result (List Patch) Cause → List ℕ × List Reason
 gps_by bytes x = elim (x >>= λ patches. Ok (patched patches bytes)) [
   | Ok new ↦ (new, noted_if (not (is_followed new)) GpsNotFollowed [])
   | Err cause ↦ (bytes, gps_refused cause ∷ [])
@@ -38,18 +38,18 @@ gps_stay : (bytes : List ℕ) (fault : Fault) → reading bytes ≡ Err fault
 gps_stay bytes fault h =
     ap (gps_by bytes) (erase_fault (stop.Fault fault) bytes (error.Header fault) h refl)
 
-fields_stay : (unread : Unread) (bytes : List ℕ) (whys : List Why) (fault : Fault)
+fields_stay : (unread : Unread) (bytes : List ℕ) (whys : List Reason) (fault : Fault)
     → reading bytes ≡ Err fault → fields_erased unread (bytes, whys) ≡ (bytes, whys)
 fields_stay unread bytes whys fault h =
-    ap (λ (x : Result Read Fault). elim x as (λ _. List ℕ × List Why) [
+    ap (λ (x : Result Read Fault). elim x as (λ _. List ℕ × List Reason) [
       | Ok read ↦ read_erased unread read (map entry_of (located bytes)) bytes whys
       | Err f ↦ (bytes, whys)
     ]) h
 
-thumbnail_stays : (unread : Unread) (bytes : List ℕ) (whys : List Why) (fault : Fault)
+thumbnail_stays : (unread : Unread) (bytes : List ℕ) (whys : List Reason) (fault : Fault)
     → reading bytes ≡ Err fault → thumbnail_erased unread (bytes, whys) ≡ (bytes, whys)
 thumbnail_stays unread bytes whys fault h =
-    ap (λ (x : Result Read Fault). elim x as (λ _. List ℕ × List Why) [
+    ap (λ (x : Result Read Fault). elim x as (λ _. List ℕ × List Reason) [
       | Ok read ↦ read_thumbnail_erased unread read bytes whys
       | Err f ↦ (bytes, whys)
     ]) h
@@ -77,11 +77,11 @@ header_fault (Ok read) fault h = absurd (ok_err h)
 header_fault (Err f) fault h = (f, refl)
 
 -- what stays where data are refused, as the limit is kept or not
-stays_by : (made old : List ℕ × List Why) (x : Result (Unit {0}) Cause) (bytes : List ℕ)
+stays_by : (made old : List ℕ × List Reason) (x : Result (Unit {0}) Cause) (bytes : List ℕ)
     (fault : Fault)
     → (x >>= λ u. of_data (reading bytes)) ≡ Err (wrong_header fault)
     → ((f : Fault) → reading bytes ≡ Err f → made ≡ old)
-    → elim x as (λ _. List ℕ × List Why) [ Ok _ ↦ made | Err cause ↦ old ] ≡ old
+    → elim x as (λ _. List ℕ × List Reason) [ Ok _ ↦ made | Err cause ↦ old ] ≡ old
 stays_by made old (Ok u) bytes fault h k =
     let f = header_fault (reading bytes) fault h in k f.0 f.1
 stays_by made old (Err cause) bytes fault h k = refl

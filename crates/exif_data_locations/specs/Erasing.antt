@@ -19,15 +19,15 @@ use Rattle.exif_data_locations.specs.Streams.{stores_streams}
 use Rattle.exif_data_locations.specs.Texts.{texts_noted}
 use Rattle.exif_data_locations.specs.Wanted.{wanted}
 use Rattle.exif_data_locations.specs.declared.region.Region.{Region}
-use Rattle.exif_data_locations.specs.declared.why.Why.{Why}
-use Rattle.exif_data_locations.specs.declared.why.Why.TheVariants.{NotChanged, GpsShared, GpsNotFollowed, NotReadWhole, SubIfdsNotRead, MakerNote, Shared, StreamsNotSearched}
+use Rattle.exif_data_locations.specs.declared.reason.Reason.{Reason}
+use Rattle.exif_data_locations.specs.declared.reason.Reason.TheVariants.{NotChanged, GpsShared, GpsNotFollowed, NotReadWhole, SubIfdsNotRead, MakerNote, Shared, StreamsNotSearched}
 
 -- how many entries are read at most
 abbrev pub entry_limit : Option ℕ
 entry_limit = Some 1_000_000
 
 -- reasons, and one more if a test holds
-abbrev pub noted_if : Bool → Why → List Why → List Why
+abbrev pub noted_if : Bool → Reason → List Reason → List Reason
 noted_if test why whys = if test then whys ++ why ∷ [] else whys
 
 -- ---- GPS data
@@ -41,12 +41,12 @@ abbrev pub is_followed : List ℕ → Bool
 is_followed bytes = elim (leftovers bytes) [ Ok left ↦ is_none_left left | Err cause ↦ false ]
 
 -- why GPS data are not erased
-abbrev pub gps_refused : Cause → Why
+abbrev pub gps_refused : Cause → Reason
 gps_refused shared = GpsShared
 gps_refused cause = NotChanged
 
 -- data without their GPS data, if these can be erased
-abbrev pub gps_erased : List ℕ → List ℕ × List Why
+abbrev pub gps_erased : List ℕ → List ℕ × List Reason
 gps_erased bytes = elim (limited_edit None EraseGps bytes) [
   | Ok new ↦ (new, noted_if (not (is_followed new)) GpsNotFollowed [])
   | Err cause ↦ (bytes, gps_refused cause ∷ [])
@@ -60,7 +60,7 @@ has_number number fields = list_any (λ (f : Field). f.tag.1 == number) fields
 
 -- reasons, and those why what was not read, or is not judged, may be a location: faults, SubIFDs
 -- (TIFF/EP), maker notes (Exif 2.32, 4.6.5), a picture in JPEG streams, and texts
-abbrev pub unread_noted : Read → List Why → List Why
+abbrev pub unread_noted : Read → List Reason → List Reason
 unread_noted read whys =
     texts_noted read.fields
     (noted_if (stores_streams read.fields) StreamsNotSearched
@@ -69,26 +69,26 @@ unread_noted read whys =
     (noted_if (not (length read.faults == 0)) NotReadWhole whys))))
 
 -- new data, if they are read as it is wanted, or the old ones
-abbrev pub if_read : Read → List EntryOffset → List ℕ → List ℕ × List Why → List ℕ × List Why
+abbrev pub if_read : Read → List EntryOffset → List ℕ → List ℕ × List Reason → List ℕ × List Reason
 if_read read entries old (new, whys) =
     if reads_as new (wanted read entries old new) then (new, whys) else (old, whys ++ Shared ∷ [])
 
 -- data without the locations of regions
-abbrev pub checked : Unread → Read → List EntryOffset → List ℕ → List Region → List Why
-    → List ℕ × List Why
+abbrev pub checked : Unread → Read → List EntryOffset → List ℕ → List Region → List Reason
+    → List ℕ × List Reason
 checked unread read entries bytes [] whys = (bytes, whys)
 checked unread read entries bytes (r ∷ regions) whys =
     if_read read entries bytes (regions_erased unread (r ∷ regions) (bytes, whys))
 
 -- data that are read so, without the locations of their fields
-abbrev pub read_erased : Unread → Read → List EntryOffset → List ℕ → List Why → List ℕ × List Why
+abbrev pub read_erased : Unread → Read → List EntryOffset → List ℕ → List Reason → List ℕ × List Reason
 read_erased unread read entries bytes whys =
     checked unread read entries bytes
     (all_regions (number_of (order_named read.little)) bytes read.fields entries)
     (unread_noted read whys)
 
 -- data without the locations of their fields
-abbrev pub fields_erased : Unread → List ℕ × List Why → List ℕ × List Why
+abbrev pub fields_erased : Unread → List ℕ × List Reason → List ℕ × List Reason
 fields_erased unread (bytes, whys) = elim (reading bytes) [
   | Ok read ↦ read_erased unread read (map entry_of (located bytes)) bytes whys
   | Err fault ↦ (bytes, whys)
@@ -98,7 +98,7 @@ fields_erased unread (bytes, whys) = elim (reading bytes) [
 
 -- Exif data without their own locations, and why there may still be one, whatever their thumbnail
 -- holds; data with too many entries stay
-abbrev pub own_erased : Unread → List ℕ → List ℕ × List Why
+abbrev pub own_erased : Unread → List ℕ → List ℕ × List Reason
 own_erased unread bytes = elim (within_limit entry_limit bytes) [
   | Ok _ ↦ fields_erased unread (gps_erased bytes)
   | Err cause ↦ (bytes, NotChanged ∷ [])

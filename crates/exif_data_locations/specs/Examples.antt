@@ -18,7 +18,7 @@ use Rattle.exif_locations.specs.declared.unread.Unread.TheVariants.{Keep, Blank}
 use Rattle.exif_data_locations.specs.Locations.{data_erased}
 use Rattle.exif_inventory.specs.Resources.{resource_at}
 use Rattle.exif_data_locations.specs.Resources.{resources_by}
-use Rattle.exif_data_locations.specs.declared.why.Why.TheVariants.{NotChanged, GpsShared, NotReadWhole, SubIfdsNotRead, MakerNote, IptcNotRead, ResourcesNotRead, ExifResource, OtherResource, Text, TypeNotKnown, Shared}
+use Rattle.exif_data_locations.specs.declared.reason.Reason.TheVariants.{NotChanged, GpsShared, NotReadWhole, SubIfdsNotRead, MakerNote, IptcNotRead, ResourcesNotRead, ExifResource, OtherResource, Text, TypeNotKnown, Shared}
 
 -- big-endian data, of which the directory at 8 has one entry, and its value is at 26
 abbrev one : List ℕ → List ℕ → List ℕ

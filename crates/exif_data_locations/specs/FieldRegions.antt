@@ -16,8 +16,8 @@ use Rattle.exif_data_locations.specs.declared.field.Holds.{Holds}
 use Rattle.exif_data_locations.specs.declared.field.Holds.TheVariants.{One, Resources}
 use Rattle.exif_data_locations.specs.declared.region.Region.{Region}
 use Rattle.exif_data_locations.specs.declared.region.What.{What}
-use Rattle.exif_data_locations.specs.declared.region.What.TheVariants.{Xmp, Iptc, GeoTiff, Left}
-use Rattle.exif_data_locations.specs.declared.why.Why.TheVariants.{TypeNotKnown}
+use Rattle.exif_data_locations.specs.declared.region.What.TheVariants.{Xmp, Iptc, GeoTiff, Residual}
+use Rattle.exif_data_locations.specs.declared.reason.Reason.TheVariants.{TypeNotKnown}
 
 -- what the value of a tag with this number holds: an XMP packet (XMP part 3, 1.1.1), IPTC data, the
 -- resources of Photoshop (Photoshop File Formats, "Image Resource Blocks") or GeoTIFF
@@ -56,7 +56,7 @@ outside_regions tag holds span bytes =
 -- the regions of a value with a type at a span; where the type is not known, none can be named
 abbrev pub typed_regions : ℕ → Holds → Option FieldType → Span → List ℕ → List Region
 typed_regions tag holds None span bytes =
-    span_regions tag (One (Left (TypeNotKnown tag))) nowhere bytes
+    span_regions tag (One (Residual (TypeNotKnown tag))) nowhere bytes
 typed_regions tag holds (Some type) span bytes = outside_regions tag holds span bytes
 
 -- the regions of the value of the entry at e

@@ -6,7 +6,7 @@ pub mod Known
 pub mod Locations
 pub mod Promises
 pub mod Regions
-pub mod WhyTexts
+pub mod ReasonTexts
 pub mod Resources
 pub mod Streams
 pub mod TagNumbers

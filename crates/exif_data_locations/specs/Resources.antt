@@ -7,21 +7,21 @@ use Rattle.exif_inventory.specs.declared.resource.Resource.{Resource}
 use Rattle.exif_data_locations.specs.Regions.{all_zero}
 use Rattle.exif_data_locations.specs.declared.region.Region.{Region}
 use Rattle.exif_data_locations.specs.declared.region.What.{What}
-use Rattle.exif_data_locations.specs.declared.region.What.TheVariants.{Xmp, Iptc, Other, Left}
-use Rattle.exif_data_locations.specs.declared.why.Why.TheVariants.{ExifResource, OtherResource, ResourcesNotRead}
+use Rattle.exif_data_locations.specs.declared.region.What.TheVariants.{Xmp, Iptc, Other, Residual}
+use Rattle.exif_data_locations.specs.declared.reason.Reason.TheVariants.{ExifResource, OtherResource, ResourcesNotRead}
 
 -- what data that are not looked at hold: nothing, if they are zeros
 abbrev pub unjudged : List ℕ → What
-unjudged bytes = if all_zero bytes then Other else Left OtherResource
+unjudged bytes = if all_zero bytes then Other else Residual OtherResource
 
 -- what a resource of this kind with these data holds: one whose fields are numbers alone names no
 -- location, and any other one may
 abbrev pub what_of : Kind → List ℕ → What
 what_of kind.Iptc bytes = Iptc
 what_of kind.PhotoshopXmp bytes = Xmp
-what_of kind.PhotoshopExif bytes = Left ExifResource
+what_of kind.PhotoshopExif bytes = Residual ExifResource
 what_of kind.Photoshop bytes = Other
-what_of kind.Broken bytes = Left ResourcesNotRead
+what_of kind.Broken bytes = Residual ResourcesNotRead
 what_of _ bytes = unjudged bytes
 
 -- the data of a resource at the front of bytes

@@ -7,8 +7,8 @@ use Rattle.exif_data_locations.specs.FieldRegions.{held_by}
 use Rattle.exif_data_locations.specs.Resources.{what_of}
 use Rattle.exif_data_locations.specs.Texts.{shown_why, shows_comment}
 use Rattle.exif_data_locations.specs.declared.field.Holds.TheVariants.{One}
-use Rattle.exif_data_locations.specs.declared.region.What.TheVariants.{GeoTiff, Left, Other}
-use Rattle.exif_data_locations.specs.declared.why.Why.TheVariants.{NotSearched, OtherResource, Text}
+use Rattle.exif_data_locations.specs.declared.region.What.TheVariants.{GeoTiff, Residual, Other}
+use Rattle.exif_data_locations.specs.declared.reason.Reason.TheVariants.{NotSearched, OtherResource, Text}
 
 -- the numbers of a satellite's picture, and a matrix
 numbers : map held_by (50844 ∷ 33920 ∷ []) ≡ replicate 2 (Some (One GeoTiff))
@@ -51,7 +51,7 @@ no_comments = refl
 -- XML, a caption, a thumbnail, data of programs, and more Exif data, and the same of zeros
 resources : map (λ number. what_of (resource_kind number 5) (codes "Basel"))
     (0x3EA ∷ 0x3F0 ∷ 0x40C ∷ 0x1F40 ∷ 0x423 ∷ [])
-    ≡ replicate 5 (Left OtherResource)
+    ≡ replicate 5 (Residual OtherResource)
 resources = refl
 
 no_resources : map (λ number. what_of (resource_kind number 5) (replicate 5 0))

@@ -9,8 +9,8 @@ use Rattle.exif_types.specs.declared.value.Value.TheVariants as value
 use Rattle.exif_locations.specs.Words.{begins_with_one, is_among}
 use Rattle.exif_data_locations.specs.Regions.{noted}
 use Rattle.exif_data_locations.specs.TagNumbers.{character_codes, other_tags, text_tags}
-use Rattle.exif_data_locations.specs.declared.why.Why.{Why}
-use Rattle.exif_data_locations.specs.declared.why.Why.TheVariants.{NotSearched, Text}
+use Rattle.exif_data_locations.specs.declared.reason.Reason.{Reason}
+use Rattle.exif_data_locations.specs.declared.reason.Reason.TheVariants.{NotSearched, Text}
 
 -- whether a byte shows something: it is neither zero nor a space
 abbrev pub is_shown : ℕ → Bool
@@ -50,21 +50,21 @@ is_tag_among numbers tag = elim tag.0 [
 
 -- why a field with a value that shows something may name a location: a text is not judged, and data
 -- of another form are not searched
-abbrev pub shown_why : Tag → Option Why
+abbrev pub shown_why : Tag → Option Reason
 shown_why tag =
     if is_tag_among text_tags tag then Some (Text tag) else
     (if is_tag_among other_tags tag then Some (NotSearched tag) else None)
 
 -- a reason, if a value shows something
-abbrev pub if_shown : Value → Option Why → Option Why
+abbrev pub if_shown : Value → Option Reason → Option Reason
 if_shown v None = None
 if_shown v (Some why) = if shows v then Some why else None
 
 -- why a field may name a location
-abbrev pub field_why : Field → Option Why
+abbrev pub field_why : Field → Option Reason
 field_why f = if_shown f.value (shown_why f.tag)
 
 -- reasons, and one for each such field
-abbrev pub texts_noted : List Field → List Why → List Why
+abbrev pub texts_noted : List Field → List Reason → List Reason
 texts_noted [] whys = whys
 texts_noted (f ∷ fields) whys = texts_noted fields (noted whys (field_why f))

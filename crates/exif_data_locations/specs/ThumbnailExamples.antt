@@ -12,7 +12,7 @@ use Rattle.exif_edit_base.specs.Readings.{reading}
 use Rattle.exif_edit.specs.Erasing.{erase_patches, gps_spans}
 use Rattle.exif_locations.specs.declared.unread.Unread.TheVariants.{Keep}
 use Rattle.exif_data_locations.specs.Locations.{data_erased}
-use Rattle.exif_data_locations.specs.declared.why.Why.TheVariants.{Shared, Thumbnail}
+use Rattle.exif_data_locations.specs.declared.reason.Reason.TheVariants.{Shared, Thumbnail}
 
 -- the second directory, whose fields say that so many bytes from an offset on are the thumbnail
 abbrev second_directory : ℕ → ℕ → List ℕ

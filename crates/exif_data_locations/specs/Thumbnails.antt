@@ -19,8 +19,8 @@ use Rattle.exif_data_locations.specs.Erasing.{noted_if, own_erased}
 use Rattle.exif_data_locations.specs.Regions.{all_zero, what_answer}
 use Rattle.exif_data_locations.specs.declared.region.What.{What}
 use Rattle.exif_data_locations.specs.declared.region.What.TheVariants as what
-use Rattle.exif_data_locations.specs.declared.why.Why.{Why}
-use Rattle.exif_data_locations.specs.declared.why.Why.TheVariants.{Shared, Thumbnail}
+use Rattle.exif_data_locations.specs.declared.reason.Reason.{Reason}
+use Rattle.exif_data_locations.specs.declared.reason.Reason.TheVariants.{Shared, Thumbnail}
 
 -- ---- where it is
 
@@ -54,13 +54,13 @@ thumbnail_span total fields =
 -- ---- its parts
 
 -- new bytes, and whether there is a reason why they may hold a location
-abbrev pub with_reason : List ℕ × Option Why → List ℕ × Bool
+abbrev pub with_reason : List ℕ × Option Reason → List ℕ × Bool
 with_reason (new, None) = (new, false)
 with_reason (new, Some why) = (new, true)
 
 -- what data that are not looked at hold: nothing, if they are zeros
 abbrev pub unjudged : List ℕ → What
-unjudged bytes = if all_zero bytes then what.Other else what.Left Thumbnail
+unjudged bytes = if all_zero bytes then what.Other else what.Residual Thumbnail
 
 -- what the data of a part hold that are no Exif data: a JFIF header has 14 bytes (JFIF 1.02), and
 -- maybe a small picture, Adobe's segment has 12
@@ -92,7 +92,7 @@ has_thumbnail bytes = elim (reading bytes) [
 ]
 
 -- new data, and whether they may hold a location: for a reason, or in a thumbnail
-abbrev pub with_further : List ℕ × List Why → List ℕ × Bool
+abbrev pub with_further : List ℕ × List Reason → List ℕ × Bool
 with_further (new, whys) = (new, not (length whys == 0) || has_thumbnail new)
 
 -- the data of a part without their locations, and whether they may still hold one; a further
@@ -137,13 +137,13 @@ stream_erased unread bytes = elim (inventory bytes) [
 -- ---- data
 
 -- new data that are not the old ones, if they are read as these
-abbrev pub if_same : Read → List ℕ → List ℕ → List Why → List ℕ × List Why
+abbrev pub if_same : Read → List ℕ → List ℕ → List Reason → List ℕ × List Reason
 if_same read old new whys =
     if bytes_eq old new then (old, whys) else
     (if reads_as new read then (new, whys) else (old, whys ++ Shared ∷ []))
 
 -- data with a new thumbnail, and the reason if that may still hold a location
-abbrev pub with_thumbnail : Read → List ℕ → List Why → List ℕ × Bool → List ℕ × List Why
+abbrev pub with_thumbnail : Read → List ℕ → List Reason → List ℕ × Bool → List ℕ × List Reason
 with_thumbnail read bytes whys (new, left) = if_same read bytes new (noted_if left Thumbnail whys)
 
 -- data without the locations in a stream that is so many bytes of them, and whether that may still
@@ -153,19 +153,19 @@ stretch_erased unread offset len bytes =
     placed offset len bytes (stream_erased unread (bytes_at offset len bytes))
 
 -- data without the locations in a stream in them
-abbrev pub span_erased : Unread → Read → List ℕ → List Why → Span → List ℕ × List Why
+abbrev pub span_erased : Unread → Read → List ℕ → List Reason → Span → List ℕ × List Reason
 span_erased unread read bytes whys span =
     with_thumbnail read bytes whys (stretch_erased unread span.offset span.len bytes)
 
 -- data that are read so, without the locations in their thumbnail
-abbrev pub read_thumbnail_erased : Unread → Read → List ℕ → List Why → List ℕ × List Why
+abbrev pub read_thumbnail_erased : Unread → Read → List ℕ → List Reason → List ℕ × List Reason
 read_thumbnail_erased unread read bytes whys = elim (thumbnail_span (length bytes) read.fields) [
   | Some span ↦ span_erased unread read bytes whys span
   | None ↦ (bytes, whys)
 ]
 
 -- data without the locations in their thumbnail, if they have one, and the reasons with its own
-abbrev pub thumbnail_erased : Unread → List ℕ × List Why → List ℕ × List Why
+abbrev pub thumbnail_erased : Unread → List ℕ × List Reason → List ℕ × List Reason
 thumbnail_erased unread (bytes, whys) = elim (reading bytes) [
   | Ok read ↦ read_thumbnail_erased unread read bytes whys
   | Err fault ↦ (bytes, whys)

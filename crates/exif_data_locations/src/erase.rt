@@ -9,11 +9,11 @@ ghost use Rattle.exif_edit_base.specs.Readings.{read_of};
 
 use crate::field::regions_of;
 use crate::gps::{erase_gps, unchanged};
+use crate::reason::{Reason, note_if};
 use crate::region::{Region, erase_regions};
 use crate::stream::stores_streams;
 use crate::text::note_texts;
 use crate::wanted::set_all_wanted;
-use crate::why::{Why, note_if};
 use exif_edit_base::limit::locate_within;
 use exif_edit_base::read::{locate, order_named, reads_as};
 use exif_edit_base::{EntryOffset, Error, Located};
@@ -39,15 +39,15 @@ fn has_number(number: u16, fields: &[Field]) -> bool
 }
 
 // Notes why what was not read may be a location.
-fn note_unread(parsed: &Parsed, whys: &mut Vec<Why>) -> Result<(), AllocError>
+fn note_unread(parsed: &Parsed, whys: &mut Vec<Reason>) -> Result<(), AllocError>
     ensures { OnOk result (whys.new.items
         ≡ unread_noted (read_of parsed.now) whys.old.items) }
 {
     let fields = parsed.fields.as_slice();
-    note_if(!parsed.faults.is_empty(), Why::NotReadWhole, whys)?;
-    note_if(has_number(330, fields), Why::SubIfdsNotRead, whys)?;
-    note_if(has_number(37500, fields), Why::MakerNote, whys)?;
-    note_if(stores_streams(fields), Why::StreamsNotSearched, whys)?;
+    note_if(!parsed.faults.is_empty(), Reason::NotReadWhole, whys)?;
+    note_if(has_number(330, fields), Reason::SubIfdsNotRead, whys)?;
+    note_if(has_number(37500, fields), Reason::MakerNote, whys)?;
+    note_if(stores_streams(fields), Reason::StreamsNotSearched, whys)?;
     note_texts(fields, whys)
 }
 
@@ -58,7 +58,7 @@ fn put_if_read(
     new: &[u8],
     entries: &[EntryOffset],
     mut parsed: Parsed,
-    whys: &mut Vec<Why>,
+    whys: &mut Vec<Reason>,
 ) -> Result<(), AllocError>
     requires long { length new.now ≡ length bytes.old }
     requires small { length bytes.old < 2 ^ 32 }
@@ -77,7 +77,7 @@ fn put_if_read(
     if reads_as(alloc, new, &parsed)? {
         bytes.copy_from_slice(new);
     } else {
-        whys.push(Why::Shared)?;
+        whys.push(Reason::Shared)?;
     }
     Ok(())
 }
@@ -90,7 +90,7 @@ fn erase_checked(
     bytes: &mut [u8],
     regions: &[Region],
     located: Located,
-    whys: &mut Vec<Why>,
+    whys: &mut Vec<Reason>,
 ) -> Result<Option<Parsed>, AllocError>
     requires within { All (LiesIn (length bytes.old)) regions.now }
     requires located { IsLocated bytes.old located }
@@ -115,7 +115,7 @@ fn erase_located(
     unread: Unread,
     bytes: &mut [u8],
     located: Located,
-    whys: &mut Vec<Why>,
+    whys: &mut Vec<Reason>,
 ) -> Result<Option<Parsed>, AllocError>
     requires { IsLocated bytes.old located }
     ensures erased { OnOk result ((bytes.new, whys.new.items) ≡ read_erased unread
@@ -135,7 +135,7 @@ fn erase_fields(
     unread: Unread,
     bytes: &mut [u8],
     located: Option<Located>,
-    whys: &mut Vec<Why>,
+    whys: &mut Vec<Reason>,
 ) -> Result<Option<Parsed>, AllocError>
     requires { MayBeLocated bytes.old located }
     ensures erased { OnOk result ((bytes.new, whys.new.items)
@@ -159,7 +159,7 @@ pub fn erase_all(
     unread: Unread,
     bytes: &mut [u8],
     located: Located,
-) -> Result<(Vec<Why>, Option<Parsed>), AllocError>
+) -> Result<(Vec<Reason>, Option<Parsed>), AllocError>
     requires { IsLocated bytes.old located }
     ensures erased { IfOk result (λ r. (bytes.new, r.0.items)
         ≡ fields_erased unread (gps_erased bytes.old)) }
@@ -177,7 +177,7 @@ pub fn erase_own(
     alloc: Global,
     unread: Unread,
     bytes: &mut [u8],
-) -> Result<(Vec<Why>, Option<Parsed>), AllocError>
+) -> Result<(Vec<Reason>, Option<Parsed>), AllocError>
     ensures erased { IfOk result (λ r. (bytes.new, r.0.items) ≡ own_erased unread bytes.old) }
     ensures read { IfOk result (λ r. MayBeRead bytes.new r.1) }
 {

@@ -6,10 +6,10 @@ ghost use Rattle.exif_data_locations.specs.FieldRegions.{all_regions, field_regi
 ghost use Rattle.exif_data_locations.specs.Regions.{LiesIn};
 ghost use Rattle.exif_edit_base.specs.Spans.{value_span};
 
+use crate::reason::Reason;
 use crate::region::{Region, What};
 use crate::resource::add_resources;
 use crate::tags::geo_tiff_tags;
-use crate::why::Why;
 use exif_base::Order;
 use exif_edit_base::EntryOffset;
 use exif_edit_base::patch::Span;
@@ -120,7 +120,7 @@ fn add_value(
             add_outside(tag, holds, span, bytes, regions)
         }
         None => {
-            let left = Holds::One(What::Left(Why::TypeNotKnown(tag)));
+            let left = Holds::One(What::Residual(Reason::TypeNotKnown(tag)));
             add_span(tag, left, Span { offset: 0, len: 0 }, bytes, regions)
         }
     }

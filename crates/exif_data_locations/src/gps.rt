@@ -6,7 +6,7 @@ ghost use Rattle.exif_data_locations.specs.Known.{IsLocated, MayBeLocated};
 ghost use Rattle.exif_edit_base.specs.Readings.{read_of, reading};
 ghost use Rattle.exif_edit_base.specs.Walked.{Finds};
 
-use crate::why::Why;
+use crate::reason::Reason;
 use exif_edit::{Edit, Error, apply, erase_located_gps};
 use exif_edit_base::Located;
 use exif_edit_base::read::locate;
@@ -24,7 +24,7 @@ fn is_followed(alloc: Global, bytes: &[u8], located: &Located) -> Result<bool, A
 }
 
 // One reason.
-fn one(alloc: Global, why: Why) -> Result<Vec<Why>, AllocError>
+fn one(alloc: Global, why: Reason) -> Result<Vec<Reason>, AllocError>
     ensures { IfOk result (λ whys. whys.items ≡ why ∷ []) }
 {
     let mut whys = Vec::new(alloc);
@@ -33,23 +33,23 @@ fn one(alloc: Global, why: Why) -> Result<Vec<Why>, AllocError>
 }
 
 // The reason why GPS data of data that were located may be left.
-fn left_of(alloc: Global, bytes: &[u8], located: &Located) -> Result<Vec<Why>, AllocError>
+fn left_of(alloc: Global, bytes: &[u8], located: &Located) -> Result<Vec<Reason>, AllocError>
     requires { IsLocated bytes.now located.now }
     ensures { IfOk result (λ whys.
-        whys.items ≡ noted_if (not (is_followed bytes.now)) Why.GpsNotFollowed []) }
+        whys.items ≡ noted_if (not (is_followed bytes.now)) Reason.GpsNotFollowed []) }
 {
     if is_followed(alloc, bytes, located)? {
         Ok(Vec::new(alloc))
     } else {
-        one(alloc, Why::GpsNotFollowed)
+        one(alloc, Reason::GpsNotFollowed)
     }
 }
 
 // The same of data that are located first, and what was located.
 #[tactic(auto, using(crate::proofs::Refused::none_followed))]
-fn left_gps(alloc: Global, bytes: &[u8]) -> Result<(Vec<Why>, Option<Located>), AllocError>
+fn left_gps(alloc: Global, bytes: &[u8]) -> Result<(Vec<Reason>, Option<Located>), AllocError>
     ensures whys { IfOk result (λ r.
-        r.0.items ≡ noted_if (not (is_followed bytes.now)) Why.GpsNotFollowed []) }
+        r.0.items ≡ noted_if (not (is_followed bytes.now)) Reason.GpsNotFollowed []) }
     ensures located { IfOk result (λ r. MayBeLocated bytes.now r.1) }
 {
     match locate(alloc, bytes) {
@@ -57,16 +57,16 @@ fn left_gps(alloc: Global, bytes: &[u8]) -> Result<(Vec<Why>, Option<Located>), 
             let whys = left_of(alloc, bytes, &located)?;
             Ok((whys, Some(located)))
         }
-        Err(Stop::Fault(_)) => Ok((one(alloc, Why::GpsNotFollowed)?, None)),
+        Err(Stop::Fault(_)) => Ok((one(alloc, Reason::GpsNotFollowed)?, None)),
         Err(Stop::OutOfMemory) => Err(AllocError),
     }
 }
 
 /// The reason that data are as they were.
-pub fn unchanged(alloc: Global) -> Result<Vec<Why>, AllocError>
-    ensures { IfOk result (λ whys. whys.items ≡ Why.NotChanged ∷ []) }
+pub fn unchanged(alloc: Global) -> Result<Vec<Reason>, AllocError>
+    ensures { IfOk result (λ whys. whys.items ≡ Reason.NotChanged ∷ []) }
 {
-    one(alloc, Why::NotChanged)
+    one(alloc, Reason::NotChanged)
 }
 
 /// Erases GPS data of data that were located, and answers why some may be left; and what is located
@@ -75,7 +75,7 @@ pub fn erase_gps(
     alloc: Global,
     bytes: &mut [u8],
     located: Located,
-) -> Result<(Vec<Why>, Option<Located>), AllocError>
+) -> Result<(Vec<Reason>, Option<Located>), AllocError>
     requires { IsLocated bytes.old located }
     ensures whys { IfOk result (λ r. (bytes.new, r.0.items) ≡ gps_erased bytes.old) }
     ensures located { IfOk result (λ r. MayBeLocated bytes.new r.1) }
@@ -87,7 +87,7 @@ pub fn erase_gps(
         }
         Ok(None) => left_gps(alloc, bytes),
         Err(Error::OutOfMemory) => Err(AllocError),
-        Err(Error::SharedBytes) => Ok((one(alloc, Why::GpsShared)?, None)),
+        Err(Error::SharedBytes) => Ok((one(alloc, Reason::GpsShared)?, None)),
         Err(_) => Ok((unchanged(alloc)?, None)),
     }
 }

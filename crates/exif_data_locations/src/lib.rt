@@ -10,6 +10,7 @@ mod field;
 mod gps;
 pub mod laws;
 mod locations;
+mod reason;
 mod region;
 mod resource;
 mod stream;
@@ -18,8 +19,7 @@ mod text;
 mod thumbnail;
 mod version;
 mod wanted;
-mod why;
 
 pub use locations::erase_locations;
+pub use reason::Reason;
 pub use version::without_version;
-pub use why::Why;

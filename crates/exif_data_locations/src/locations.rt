@@ -8,8 +8,8 @@ ghost use Rattle.exif_data_locations.specs.Thumbnails.{thumbnail_erased};
 
 use crate::erase::{ENTRY_LIMIT, erase_all};
 use crate::gps::unchanged;
+use crate::reason::Reason;
 use crate::thumbnail::erase_thumbnail;
-use crate::why::Why;
 use exif_edit_base::limit::locate_within;
 use exif_edit_base::{Error, Located};
 use exif_locations::Unread;
@@ -21,7 +21,7 @@ fn erase_with_thumbnail(
     unread: Unread,
     bytes: &mut [u8],
     located: Located,
-) -> Result<Vec<Why>, AllocError>
+) -> Result<Vec<Reason>, AllocError>
     requires { IsLocated bytes.old located }
     ensures { IfOk result (λ whys. (bytes.new, whys.items)
         ≡ thumbnail_erased unread (fields_erased unread (gps_erased bytes.old))) }
@@ -52,7 +52,7 @@ pub fn erase_locations(
     alloc: Global,
     unread: Unread,
     bytes: &mut [u8],
-) -> Result<Vec<Why>, AllocError>
+) -> Result<Vec<Reason>, AllocError>
     ensures { IfOk result (λ whys. (bytes.new, whys.items) ≡ data_erased unread bytes.old) }
 {
     match locate_within(alloc, bytes, ENTRY_LIMIT) {

@@ -3,7 +3,7 @@
 ghost use Rattle.std.specs.Prelude.{◌≡◌, ◌+◌, ◌≤◌, length, replicate, All, OnOk};
 ghost use Rattle.exif_data_locations.specs.Regions.{LiesIn, all_zero, iptc_answer, iptc_judged, region_erased, regions_erased, what_answer, xmp_answer, xmp_judged};
 
-use crate::why::Why;
+use crate::reason::Reason;
 use exif_locations::texts::{iptc_has_texts, xmp_has_texts};
 use exif_locations::{Unread, unread};
 use std::alloc::{AllocError, Global};
@@ -20,7 +20,7 @@ pub enum What {
     /// Nothing that is known to say a location.
     Other,
     /// What may say one and stays, for this reason.
-    Left(Why),
+    Residual(Reason),
 }
 
 /// This many bytes of Exif data from an offset on, which are of a field with this tag.
@@ -40,41 +40,41 @@ pub fn all_zero(bytes: &[u8]) -> bool
 }
 
 // Erases the locations of an XMP packet.
-fn erase_xmp(tag: u16, unread: Unread, bytes: &mut [u8]) -> Option<Why>
+fn erase_xmp(tag: u16, unread: Unread, bytes: &mut [u8]) -> Option<Reason>
     ensures { (bytes.new, result) ≡ xmp_answer tag unread bytes.old }
 {
     match unread::erase_xmp(unread, bytes) {
-        Some(fault) => Some(Why::XmpNotRead(tag, fault)),
+        Some(fault) => Some(Reason::XmpNotRead(tag, fault)),
         None => None,
     }
 }
 
 // Erases the locations of IPTC data.
-fn erase_iptc(tag: u16, unread: Unread, bytes: &mut [u8]) -> Option<Why>
+fn erase_iptc(tag: u16, unread: Unread, bytes: &mut [u8]) -> Option<Reason>
     ensures { (bytes.new, result) ≡ iptc_answer tag unread bytes.old }
 {
     match unread::erase_iptc(unread, bytes) {
-        Some(fault) => Some(Why::IptcNotRead(tag, fault)),
+        Some(fault) => Some(Reason::IptcNotRead(tag, fault)),
         None => None,
     }
 }
 
 // The same of a packet, which may hold texts.
-fn judge_xmp(tag: u16, unread: Unread, bytes: &mut [u8]) -> Option<Why>
+fn judge_xmp(tag: u16, unread: Unread, bytes: &mut [u8]) -> Option<Reason>
     ensures { (bytes.new, result) ≡ xmp_judged tag unread bytes.old }
 {
     match erase_xmp(tag, unread, bytes) {
-        None if xmp_has_texts(bytes) => Some(Why::Texts(tag)),
+        None if xmp_has_texts(bytes) => Some(Reason::Texts(tag)),
         why => why,
     }
 }
 
 // The same of IPTC data.
-fn judge_iptc(tag: u16, unread: Unread, bytes: &mut [u8]) -> Option<Why>
+fn judge_iptc(tag: u16, unread: Unread, bytes: &mut [u8]) -> Option<Reason>
     ensures { (bytes.new, result) ≡ iptc_judged tag unread bytes.old }
 {
     match erase_iptc(tag, unread, bytes) {
-        None if iptc_has_texts(bytes) => Some(Why::Texts(tag)),
+        None if iptc_has_texts(bytes) => Some(Reason::Texts(tag)),
         why => why,
     }
 }
@@ -87,7 +87,7 @@ fn zero(bytes: &mut [u8])
 }
 
 /// Erases the locations in what a region holds, and answers why it may still hold one.
-pub fn erase_what(tag: u16, unread: Unread, what: What, bytes: &mut [u8]) -> Option<Why>
+pub fn erase_what(tag: u16, unread: Unread, what: What, bytes: &mut [u8]) -> Option<Reason>
     ensures { (bytes.new, result) ≡ what_answer tag unread what bytes.old }
 {
     match what {
@@ -98,7 +98,7 @@ pub fn erase_what(tag: u16, unread: Unread, what: What, bytes: &mut [u8]) -> Opt
             None
         }
         What::Other => None,
-        What::Left(why) => Some(why),
+        What::Residual(why) => Some(why),
     }
 }
 
@@ -107,7 +107,7 @@ fn erase_region(
     unread: Unread,
     bytes: &mut [u8],
     region: Region,
-    whys: &mut Vec<Why>,
+    whys: &mut Vec<Reason>,
 ) -> Result<(), AllocError>
     requires { LiesIn (length bytes.old) region }
     ensures { OnOk result ((bytes.new, whys.new.items)
@@ -126,7 +126,7 @@ pub fn erase_regions(
     unread: Unread,
     bytes: &mut [u8],
     regions: &[Region],
-    whys: &mut Vec<Why>,
+    whys: &mut Vec<Reason>,
 ) -> Result<(), AllocError>
     requires { All (LiesIn (length bytes.old)) regions.now }
     ensures { OnOk result ((bytes.new, whys.new.items)

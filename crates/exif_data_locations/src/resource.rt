@@ -4,8 +4,8 @@ ghost use Rattle.std.specs.Prelude.{◌≡◌, ◌++◌, ◌+◌, ◌≤◌, ◌
 ghost use Rattle.exif_data_locations.specs.Regions.{LiesIn};
 ghost use Rattle.exif_data_locations.specs.Resources.{resource_region, resource_regions, unjudged, what_of};
 
+use crate::reason::Reason;
 use crate::region::{Region, What, all_zero};
-use crate::why::Why;
 use exif_inventory::{Kind, Resource, resource_at};
 use std::alloc::AllocError;
 
@@ -16,7 +16,7 @@ fn unjudged(bytes: &[u8]) -> What
     if all_zero(bytes) {
         What::Other
     } else {
-        What::Left(Why::OtherResource)
+        What::Residual(Reason::OtherResource)
     }
 }
 
@@ -27,9 +27,9 @@ fn what_of(kind: Kind, bytes: &[u8]) -> What
     match kind {
         Kind::Iptc => What::Iptc,
         Kind::PhotoshopXmp => What::Xmp,
-        Kind::PhotoshopExif => What::Left(Why::ExifResource),
+        Kind::PhotoshopExif => What::Residual(Reason::ExifResource),
         Kind::Photoshop => What::Other,
-        Kind::Broken => What::Left(Why::ResourcesNotRead),
+        Kind::Broken => What::Residual(Reason::ResourcesNotRead),
         _ => unjudged(bytes),
     }
 }

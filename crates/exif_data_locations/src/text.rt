@@ -3,8 +3,8 @@
 ghost use Rattle.std.specs.Prelude.{◌≡◌, OnOk};
 ghost use Rattle.exif_data_locations.specs.Texts.{field_why, is_shown, is_tag_among, show, show_one, shown_why, shows, shows_comment, texts_noted};
 
+use crate::reason::Reason;
 use crate::tags::{character_codes, other_tags, text_tags};
-use crate::why::Why;
 use exif_base::Items;
 use exif_locations::words::begins_with_one;
 use exif_types::{Context, Field, Tag, Value};
@@ -72,20 +72,20 @@ fn is_tag_among(numbers: &[u16], tag: Tag) -> bool
 }
 
 // Why a field with a value that shows something may name a location.
-fn shown_why(tag: Tag) -> Option<Why>
+fn shown_why(tag: Tag) -> Option<Reason>
     ensures { result ≡ shown_why tag }
 {
     if is_tag_among(text_tags(), tag) {
-        Some(Why::Text(tag))
+        Some(Reason::Text(tag))
     } else if is_tag_among(other_tags(), tag) {
-        Some(Why::NotSearched(tag))
+        Some(Reason::NotSearched(tag))
     } else {
         None
     }
 }
 
 // Why a field may name a location.
-fn field_why(field: &Field) -> Option<Why>
+fn field_why(field: &Field) -> Option<Reason>
     ensures { result ≡ field_why field.now }
 {
     let why = shown_why(field.tag)?;
@@ -93,7 +93,7 @@ fn field_why(field: &Field) -> Option<Why>
 }
 
 /// Notes each field that shows something and is a text or holds data of its own.
-pub fn note_texts(fields: &[Field], whys: &mut Vec<Why>) -> Result<(), AllocError>
+pub fn note_texts(fields: &[Field], whys: &mut Vec<Reason>) -> Result<(), AllocError>
     ensures { OnOk result (whys.new.items ≡ texts_noted fields.now whys.old.items) }
 {
     for field in fields {

@@ -10,8 +10,8 @@ ghost use Rattle.exif_inventory.specs.Promises.{EndsIn};
 ghost use Rattle.exif_types.specs.Lookup.{is_named};
 
 use crate::erase::erase_own;
+use crate::reason::{Reason, note_if};
 use crate::region::{What, all_zero, erase_what};
-use crate::why::{Why, note_if};
 use exif_edit_base::patch::Span;
 use exif_edit_base::read::{read, reads_as};
 use exif_inventory::{Kind, Part, inventory};
@@ -76,7 +76,7 @@ fn unjudged(bytes: &[u8]) -> What
     if all_zero(bytes) {
         What::Other
     } else {
-        What::Left(Why::Thumbnail)
+        What::Residual(Reason::Thumbnail)
     }
 }
 
@@ -248,7 +248,7 @@ fn put_if_same(
     bytes: &mut [u8],
     new: &[u8],
     parsed: &Parsed,
-    whys: &mut Vec<Why>,
+    whys: &mut Vec<Reason>,
 ) -> Result<(), AllocError>
     requires { length new.now ≡ length bytes.old }
     ensures { OnOk result ((bytes.new, whys.new.items)
@@ -260,7 +260,7 @@ fn put_if_same(
     if reads_as(alloc, new, parsed)? {
         bytes.copy_from_slice(new);
     } else {
-        whys.push(Why::Shared)?;
+        whys.push(Reason::Shared)?;
     }
     Ok(())
 }
@@ -272,7 +272,7 @@ fn erase_span(
     bytes: &mut [u8],
     span: Span,
     parsed: &Parsed,
-    whys: &mut Vec<Why>,
+    whys: &mut Vec<Reason>,
 ) -> Result<(), AllocError>
     requires { span.offset + span.len ≤ length bytes.old }
     ensures { OnOk result ((bytes.new, whys.new.items)
@@ -281,7 +281,7 @@ fn erase_span(
     let mut new = Vec::from_slice(alloc, bytes)?;
     let data = new.as_mut_slice();
     let left = erase_stretch(alloc, unread, data, span.offset as usize, span.len)?;
-    note_if(left, Why::Thumbnail, whys)?;
+    note_if(left, Reason::Thumbnail, whys)?;
     put_if_same(alloc, bytes, new.as_slice(), parsed, whys)
 }
 
@@ -291,7 +291,7 @@ fn erase_read(
     unread: Unread,
     bytes: &mut [u8],
     parsed: &Parsed,
-    whys: &mut Vec<Why>,
+    whys: &mut Vec<Reason>,
 ) -> Result<(), AllocError>
     ensures { OnOk result ((bytes.new, whys.new.items)
         ≡ read_thumbnail_erased unread (read_of parsed.now) bytes.old whys.old.items) }
@@ -309,7 +309,7 @@ pub fn erase_thumbnail(
     unread: Unread,
     bytes: &mut [u8],
     known: Option<Parsed>,
-    whys: &mut Vec<Why>,
+    whys: &mut Vec<Reason>,
 ) -> Result<(), AllocError>
     requires { MayBeRead bytes.old known }
     ensures { OnOk result ((bytes.new, whys.new.items)

@@ -43,7 +43,7 @@ pub enum EditError<R> {
 /// What is done to the bytes of a file.
 pub trait Edit {
     /// What may be left undone.
-    type Left: Drop;
+    type Residual: Drop;
 
     /// What the user may have to know.
     type Note: Drop;
@@ -62,7 +62,7 @@ pub trait Edit {
         &self,
         alloc: Global,
         old: &[u8],
-    ) -> Result<Edited<Self::Left, Self::Note>, EditError<Self::Refusal>>
+    ) -> Result<Edited<Self::Residual, Self::Note>, EditError<Self::Refusal>>
         ensures answered { IfOk result (λ edited. answer self.now old.now edited.file.items) }
         ensures left { IfOk result (λ edited.
             length edited.report.left.items ≡ undone self.now old.now) };
@@ -160,7 +160,7 @@ pub fn change<F: FileSystem, E: Edit>(
     edit: &E,
     name: &str,
     keeping: Keeping,
-) -> Result<Report<E::Left, E::Note>, Failure<E::Refusal>>
+) -> Result<Report<E::Residual, E::Note>, Failure<E::Refusal>>
     ensures done { OnOk result (Run
         (IsWholeChange (E.answer edit.now) name.now (backup_if keeping.backup name.now)
         keeping.times (none_failed (F.failures files.old) (F.failures files.new)))

@@ -42,7 +42,7 @@ pub trait Reporter<L, N, R> {
 ///
 /// In every state of the run each file is the old one or its answer, whole: also where the process
 /// is killed, and where memory runs out, which alone ends the run.
-pub fn change_all<F: FileSystem, E: Edit, P: Reporter<E::Left, E::Note, E::Refusal>>(
+pub fn change_all<F: FileSystem, E: Edit, P: Reporter<E::Residual, E::Note, E::Refusal>>(
     alloc: Global,
     files: &mut F,
     edit: &E,
@@ -83,7 +83,7 @@ pub fn change_all<F: FileSystem, E: Edit, P: Reporter<E::Left, E::Note, E::Refus
 }
 
 // Changes a file, unless its name was seen, and adds what became of it to the results.
-fn change_next<F: FileSystem, E: Edit, P: Reporter<E::Left, E::Note, E::Refusal>>(
+fn change_next<F: FileSystem, E: Edit, P: Reporter<E::Residual, E::Note, E::Refusal>>(
     alloc: Global,
     files: &mut F,
     edit: &E,
@@ -129,7 +129,7 @@ fn insert(alloc: Global, seen: &mut BTreeSet<String>, name: &str) -> Result<bool
 }
 
 // Changes a file and reports it.
-fn change_one<F: FileSystem, E: Edit, P: Reporter<E::Left, E::Note, E::Refusal>>(
+fn change_one<F: FileSystem, E: Edit, P: Reporter<E::Residual, E::Note, E::Refusal>>(
     alloc: Global,
     files: &mut F,
     edit: &E,

@@ -1,7 +1,7 @@
 -- A picture that gets another location.
 use Rattle.std.specs.Prelude.{◌≡◌, ℕ, ◌+◌, List, [], length, map, Option, Result, Ok, Err}
 use Rattle.exif_change.specs.Changed.{Undone, undone_of}
-use Rattle.exif_change.specs.Refusals.{Why, ◌>>=◌}
+use Rattle.exif_change.specs.Refusals.{Reason, ◌>>=◌}
 use Rattle.exif_pictures.specs.Pictures.{picture_fields_set}
 use Rattle.exif_types.specs.declared.field.Field.{Field}
 use Rattle.exif_types.specs.declared.tag.Tag.{Tag}
@@ -27,18 +27,18 @@ abbrev pub with_erased : List (Option Undone) → List ℕ × List Tag → Reloc
 with_erased undone (file, kept) = record { file = file; undone = undone; kept = kept }
 
 -- the fields are set, and then the old fields are taken out
-abbrev pub relocated : List Field → List Tag → List ℕ → Result Relocation Why
+abbrev pub relocated : List Field → List Tag → List ℕ → Result Relocation Reason
 relocated fields stale file =
     picture_fields_set fields file
     >>= λ made. Ok (with_erased made.undone (all_erased stale (made.file, [])))
 
 -- the new bytes alone
-abbrev pub file_of : Result Relocation Why → Result (List ℕ) Why
+abbrev pub file_of : Result Relocation Reason → Result (List ℕ) Reason
 file_of (Ok made) = Ok made.file
 file_of (Err why) = Err why
 
 -- how many things are left undone in the new file
-abbrev pub undone_by : Result Relocation Why → ℕ
+abbrev pub undone_by : Result Relocation Reason → ℕ
 undone_by (Ok made) = length made.undone + length made.kept
 undone_by (Err why) = 0
 

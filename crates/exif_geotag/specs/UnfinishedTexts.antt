@@ -4,7 +4,7 @@ use Rattle.exif_table.specs.declared.context.Context.TheVariants.{Gps}
 use Rattle.exif_types.specs.TagRows.{row_of_tag}
 use Rattle.exif_types.specs.TagTexts.{tag_text}
 use Rattle.exif_change.specs.Texts.{left_text}
-use Rattle.exif_change.specs.declared.changed.Left.TheVariants as left
+use Rattle.exif_change.specs.declared.changed.Residual.TheVariants as left
 use Rattle.exif_geotag.specs.declared.relocating.Unfinished.{Unfinished}
 use Rattle.exif_geotag.specs.declared.relocating.Unfinished.TheVariants.{Change, Old}
 

@@ -5,7 +5,7 @@ ghost use Rattle.exif_change.specs.Refusals.{Answers};
 ghost use Rattle.exif_geotag.specs.Relocating.{IsRelocated, relocated, relocation_of, undone_in};
 
 use crate::erasing::erase_all;
-use exif_change::{Changed, Left, Note, Refusal};
+use exif_change::{Changed, Note, Refusal, Residual};
 use exif_files::{Edit, EditError, Edited, Report};
 use exif_pictures::set_fields;
 use exif_types::{Field, Tag};
@@ -18,7 +18,7 @@ pub struct Relocated {
     /// The new bytes.
     pub file: Vec<u8>,
     /// What was left undone of the fields.
-    pub left: Vec<Left>,
+    pub left: Vec<Residual>,
     /// The fields of the old location that stay.
     pub kept: Vec<Tag>,
 }
@@ -51,7 +51,7 @@ pub struct Relocation<'f> {
 #[derive(Debug, Drop)]
 pub enum Unfinished {
     /// Some of the change.
-    Change(Left),
+    Change(Residual),
     /// A field of the old location stays.
     Old(Tag),
 }
@@ -75,7 +75,7 @@ impl fmt::Display for Unfinished {
 }
 
 // Adds what was left undone of the fields.
-fn add_changes(left: Vec<Left>, all: &mut Vec<Unfinished>) -> Result<(), AllocError>
+fn add_changes(left: Vec<Residual>, all: &mut Vec<Unfinished>) -> Result<(), AllocError>
     ensures { OnOk result (length all.new.items ≡ length all.old.items + length left.items) }
 {
     for left in left {
@@ -110,7 +110,7 @@ fn edited(alloc: Global, made: Relocated) -> Result<Edited<Unfinished, Note>, Al
 }
 
 impl<'f> Edit for Relocation<'f> {
-    type Left = Unfinished;
+    type Residual = Unfinished;
 
     type Note = Note;
 

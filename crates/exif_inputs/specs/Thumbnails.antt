@@ -1,6 +1,6 @@
 -- The thumbnail of a picture: where it is, and why there is none.
 use Rattle.std.specs.Prelude.{ℕ, List, codes, Option, Some, None, Result, Ok, Err}
-use Rattle.exif_change.specs.Refusals.{Why, no_thumbnail, reading}
+use Rattle.exif_change.specs.Refusals.{Reason, no_thumbnail, reading}
 use Rattle.exif_containers.specs.declared.container.Format.TheVariants as known
 use Rattle.exif_formats.specs.declared.format.PictureFormat.{PictureFormat}
 use Rattle.exif_formats.specs.declared.format.PictureFormat.TheVariants as format
@@ -26,7 +26,7 @@ kept_in (Some format.JpegXl) = kept.Data
 kept_in (Some format.Raf) = kept.Data
 
 -- the bytes of a thumbnail, or why there are none
-abbrev pub jpeg_of : Option Thumbnail → Result (List ℕ) Why
+abbrev pub jpeg_of : Option Thumbnail → Result (List ℕ) Reason
 jpeg_of None = Err no_thumbnail
 jpeg_of (Some (Jpeg jpeg)) = Ok jpeg.items
 jpeg_of (Some TooLong) =

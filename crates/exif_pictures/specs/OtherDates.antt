@@ -4,7 +4,7 @@ use Rattle.std.specs.List.{list_any}
 use Rattle.exif_assign.specs.declared.assignment.Assignment.{Assignment}
 use Rattle.exif_change.specs.Changed.{Change, other_dates}
 use Rattle.exif_change.specs.Reading.{Contents, file_contents}
-use Rattle.exif_change.specs.Refusals.{Why}
+use Rattle.exif_change.specs.Refusals.{Reason}
 use Rattle.exif_inventory.specs.declared.kind.Kind.{Kind}
 use Rattle.exif_inventory.specs.declared.kind.Kind.TheVariants as kind
 use Rattle.exif_inventory.specs.declared.part.Part.{Part}
@@ -56,7 +56,7 @@ abbrev pub has_other_dates : List ℕ → Bool
 has_other_dates file = has_dated_part file || has_dated_field (file_contents file)
 
 -- a change of dates, where this file had others, too
-abbrev pub with_other_dates : Bool → Result Change Why → Result Change Why
+abbrev pub with_other_dates : Bool → Result Change Reason → Result Change Reason
 with_other_dates true (Ok change) =
     Ok (record { file = change.file; undone = change.undone ++ Some other_dates ∷ [] })
 with_other_dates false (Ok change) = Ok change

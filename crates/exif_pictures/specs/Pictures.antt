@@ -15,7 +15,7 @@ use Rattle.exif_types.specs.declared.field.Field.{Field}
 use Rattle.exif_change.specs.Changed.{Change, cut_off, whole}
 use Rattle.exif_change.specs.Changes.{if_parted, keeps_orientation, scrubbed, scrubbed_with_color, with_color}
 use Rattle.exif_change.specs.Notes as notes
-use Rattle.exif_change.specs.Refusals.{Why, reading}
+use Rattle.exif_change.specs.Refusals.{Reason, reading}
 use Rattle.exif_change.specs.declared.dates.Dates.{Dates}
 use Rattle.exif_change.specs.declared.notes.Color.{Color}
 use Rattle.exif_change.specs.declared.notes.Note.{Note}
@@ -38,84 +38,84 @@ abbrev pub format_of : List ℕ → Option PictureFormat
 format_of file = format_in (take 4096 file)
 
 -- raw files are refused
-abbrev pub raw_refused : Why
+abbrev pub raw_refused : Reason
 raw_refused = reading (not_supported (codes "raw files are not changed; use an XMP sidecar"))
 
 -- a PNG file without what is removed
-abbrev pub png_scrubbed : Removed → List ℕ → Result Change Why
+abbrev pub png_scrubbed : Removed → List ℕ → Result Change Reason
 png_scrubbed (removed.Gps unread) file = png_unlocated unread file
 png_scrubbed removed.Metadata file = png_emptied removed.Metadata file
 png_scrubbed removed.AllButOrientation file = png_emptied removed.AllButOrientation file
 
 -- a JPEG XL file without the locations of its parts, and what may still hold one; a codestream
 -- without a container has no parts
-abbrev pub jxl_unlocated : Unread → List ℕ → Result Change Why
+abbrev pub jxl_unlocated : Unread → List ℕ → Result Change Reason
 jxl_unlocated unread file = elim (inventory file) [
   | Some parts ↦ if_parted (privacy.erased unread file)
   | None ↦ Ok (whole file)
 ]
 
 -- a JPEG XL file without what is removed; its picture keeps its own orientation
-abbrev pub jxl_without : Removed → List ℕ → Result Change Why
+abbrev pub jxl_without : Removed → List ℕ → Result Change Reason
 jxl_without (removed.Gps unread) file = jxl_unlocated unread file
 jxl_without removed.Metadata file = jxl_emptied file
 jxl_without removed.AllButOrientation file = jxl_emptied file
 
 -- a container without a codestream is refused
-abbrev pub no_codestream : Why
+abbrev pub no_codestream : Reason
 no_codestream = reading (invalid_format (codes "JPEG XL file without a codestream"))
 
 -- a change of a file that is cut off
-abbrev pub if_cut_off : Result Change Why → Result Change Why
+abbrev pub if_cut_off : Result Change Reason → Result Change Reason
 if_cut_off (Ok change) =
     Ok (record { file = change.file; undone = change.undone ++ Some cut_off ∷ [] })
 if_cut_off (Err why) = Err why
 
 -- a change of a JPEG XL file, by how much of its codestream it has
-abbrev pub by_codestream : Codestream → Result Change Why → Result Change Why
+abbrev pub by_codestream : Codestream → Result Change Reason → Result Change Reason
 by_codestream codestream.Absent change = Err no_codestream
 by_codestream codestream.CutOff change = if_cut_off change
 by_codestream codestream.Whole change = change
 
 -- a JPEG XL file without what is removed, if it has a codestream
-abbrev pub jxl_scrubbed : Removed → List ℕ → Result Change Why
+abbrev pub jxl_scrubbed : Removed → List ℕ → Result Change Reason
 jxl_scrubbed removed file = by_codestream (codestream_of file) (jxl_without removed file)
 
 -- a file without what is removed
-abbrev pub scrubbed_by : Option PictureFormat → Removed → List ℕ → Result Change Why
+abbrev pub scrubbed_by : Option PictureFormat → Removed → List ℕ → Result Change Reason
 scrubbed_by None removed file = scrubbed removed file
 scrubbed_by (Some (format.Container known)) removed file = scrubbed removed file
 scrubbed_by (Some format.Png) removed file = png_scrubbed removed file
 scrubbed_by (Some format.JpegXl) removed file = jxl_scrubbed removed file
 scrubbed_by (Some raw) removed file = Err raw_refused
 
-abbrev pub picture_scrubbed : Removed → List ℕ → Result Change Why
+abbrev pub picture_scrubbed : Removed → List ℕ → Result Change Reason
 picture_scrubbed removed file = scrubbed_by (format_of file) removed file
 
 -- a PNG file without its colour profile, and without what is removed beside it
-abbrev pub png_with_color : Removed → List ℕ → Result Change Why
+abbrev pub png_with_color : Removed → List ℕ → Result Change Reason
 png_with_color removed file = elim (colorless file) [
   | Some new ↦ png_scrubbed removed new
   | None ↦ with_color (png_scrubbed removed file)
 ]
 
 -- a file without its colour profile, which JPEG XL files keep, and without what is removed
-abbrev pub color_scrubbed_by : Option PictureFormat → Removed → List ℕ → Result Change Why
+abbrev pub color_scrubbed_by : Option PictureFormat → Removed → List ℕ → Result Change Reason
 color_scrubbed_by None removed file = scrubbed_with_color removed file
 color_scrubbed_by (Some (format.Container known)) removed file = scrubbed_with_color removed file
 color_scrubbed_by (Some format.Png) removed file = png_with_color removed file
 color_scrubbed_by (Some format.JpegXl) removed file = with_color (jxl_scrubbed removed file)
 color_scrubbed_by (Some raw) removed file = Err raw_refused
 
-abbrev pub picture_scrubbed_with_color : Removed → List ℕ → Result Change Why
+abbrev pub picture_scrubbed_with_color : Removed → List ℕ → Result Change Reason
 picture_scrubbed_with_color removed file = color_scrubbed_by (format_of file) removed file
 
 -- a JPEG XL file with its Exif data changed, if it has a codestream
-abbrev pub jxl_edited : Edit → List ℕ → Result Change Why
+abbrev pub jxl_edited : Edit → List ℕ → Result Change Reason
 jxl_edited edit file = by_codestream (codestream_of file) (edited_in container.Jxl edit file)
 
 -- a file with its Exif data changed
-abbrev pub edited_by : Option PictureFormat → Edit → List ℕ → Result Change Why
+abbrev pub edited_by : Option PictureFormat → Edit → List ℕ → Result Change Reason
 edited_by None edit file = data_changed edit file
 edited_by (Some (format.Container known)) edit file = data_changed edit file
 edited_by (Some format.Png) edit file = edited_in container.Png edit file
@@ -123,19 +123,19 @@ edited_by (Some format.JpegXl) edit file = jxl_edited edit file
 edited_by (Some raw) edit file = Err raw_refused
 
 -- a file with values set; where dates are, those that it may have beside its Exif data stay
-abbrev pub picture_set : List Assignment → List ℕ → Result Change Why
+abbrev pub picture_set : List Assignment → List ℕ → Result Change Reason
 picture_set assignments file =
     with_other_dates (leaves_dates (list_any assigns_date assignments) file)
     (edited_by (format_of file) (the_values assignments) file)
 
 -- a file with fields set, likewise
-abbrev pub picture_fields_set : List Field → List ℕ → Result Change Why
+abbrev pub picture_fields_set : List Field → List ℕ → Result Change Reason
 picture_fields_set all file =
     with_other_dates (leaves_dates (list_any is_date_field all) file)
     (edited_by (format_of file) (the_fields all) file)
 
 -- a file with its dates moved; those that it may have beside its Exif data stay
-abbrev pub picture_shifted : ClockShift → Dates → List ℕ → Result Change Why
+abbrev pub picture_shifted : ClockShift → Dates → List ℕ → Result Change Reason
 picture_shifted by dates file =
     with_other_dates (has_other_dates file) (edited_by (format_of file) (the_shift by dates) file)
 

@@ -8,7 +8,7 @@ ghost use Rattle.exif_change.specs.Refusals.{Answers};
 ghost use Rattle.exif_pictures.specs.OtherDates.{assigns_date, has_dated_field, has_dated_part, has_other_dates, is_date, is_date_field, is_dated_field, is_dated_kind, is_dated_part, is_dated_tag, leaves_dates, with_other_dates};
 
 use exif::{Context, Error, Field, Tag};
-use exif_change::{Assignment, Changed, Left, Refusal, read};
+use exif_change::{Assignment, Changed, Refusal, Residual, read};
 use exif_inventory::{Kind, Part};
 use exif_privacy::parts_of;
 use exif_types::fields_left;
@@ -121,7 +121,7 @@ pub(crate) fn with_other_dates(others: bool, changed: Changed) -> Result<Changed
 {
     let Changed { file, mut left } = changed;
     if others {
-        left.push(Left::OtherDates)?;
+        left.push(Residual::OtherDates)?;
     }
     Ok(Changed { file, left })
 }

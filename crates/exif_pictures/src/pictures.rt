@@ -16,7 +16,7 @@ use crate::rotation::{file_turned, note_turned, png_turned};
 use crate::{jxl, png};
 use exif::{Error, Field};
 use exif_change::{
-    Assignment, Changed, ClockShift, Color, Dates, Left, Note, Refusal, Removed, Unread,
+    Assignment, Changed, ClockShift, Color, Dates, Note, Refusal, Removed, Residual, Unread,
     parts_unlocated,
 };
 use exif_formats::{PictureFormat, format_of_file};
@@ -77,7 +77,7 @@ fn cut_off(changed: Changed) -> Result<Changed, Refusal>
     ensures { Answers change_of result (if_cut_off (Ok (change_of changed))) }
 {
     let Changed { file, mut left } = changed;
-    left.push(Left::CutOff)?;
+    left.push(Residual::CutOff)?;
     Ok(Changed { file, left })
 }
 
@@ -118,7 +118,7 @@ fn with_color(changed: Changed) -> Result<Changed, Refusal>
     ensures { Answers change_of result (with_color (Ok (change_of changed))) }
 {
     let Changed { file, mut left } = changed;
-    left.push(Left::Color)?;
+    left.push(Residual::Color)?;
     Ok(Changed { file, left })
 }
 

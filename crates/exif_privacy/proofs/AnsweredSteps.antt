@@ -10,8 +10,8 @@ use Rattle.exif_privacy.specs.Judging.{front_reasons, judged_from}
 use Rattle.exif_privacy.specs.Parts.{part_reasons}
 use Rattle.exif_privacy.specs.Portions.{full_len, goes_on, has_portion, is_extended, joined_len, run_len}
 use Rattle.exif_privacy.specs.Promises.{LeftIsAnswered, ReasonsAreItsOwn}
-use Rattle.exif_privacy.specs.declared.stays.Stays.{Stays}
-use Rattle.exif_privacy.specs.declared.stays.Why.{Why}
+use Rattle.exif_privacy.specs.declared.remaining.Remaining.{Remaining}
+use Rattle.exif_privacy.specs.declared.remaining.Reason.{Reason}
 use Rattle.exif_locations.specs.declared.unread.Unread.{Unread}
 use Rattle.exif_privacy.proofs.TwiceSteps.{found_there}
 
@@ -23,16 +23,16 @@ further y xs x h = let within = h.1 in (suc h.0, omega arith, h.2)
 here : {X : Type 0} → (y : X) (xs : List X) (x : X) → y ≡ x → Contains (y ∷ xs) x
 here y xs x e = (0, omega arith, e)
 
-mapped : (part : Part) (whys : List Why) (why : Why) → Contains whys why → Contains (map (stays_for part) whys) (stays_for part why)
+mapped : (part : Part) (whys : List Reason) (why : Reason) → Contains whys why → Contains (map (stays_for part) whys) (stays_for part why)
 mapped part [] why h = absurd (let within = h.1 in omega arith)
 mapped part (w ∷ whys) why (zero, within, e) = here _ _ _ (ap (stays_for part) e)
 mapped part (w ∷ whys) why (suc k, within, e) = further _ _ _ (mapped part whys why (k, omega arith, e))
 
 -- a reason of a part among those of all
-answered : (parts : List (Part × List Why)) (part : Part) (whys : List Why) (why : Why) → Contains parts (part, whys) → Contains whys why → Contains (flat_map all_stay parts) (stays_for part why)
+answered : (parts : List (Part × List Reason)) (part : Part) (whys : List Reason) (why : Reason) → Contains parts (part, whys) → Contains whys why → Contains (flat_map all_stay parts) (stays_for part why)
 answered [] part whys why h w = absurd (let within = h.1 in omega arith)
 answered (p ∷ ps) part whys why (zero, within, e) w =
-    let P : Part × List Why → Type 0 = λ q. Contains (flat_map all_stay (q ∷ ps)) (stays_for part why) in
+    let P : Part × List Reason → Type 0 = λ q. Contains (flat_map all_stay (q ∷ ps)) (stays_for part why) in
     subst P (sym e) (Contains-append_left (map (stays_for part) whys) (flat_map all_stay ps) (stays_for part why) (mapped part whys why w))
 answered (p ∷ ps) part whys why (suc k, within, e) w =
     Contains-append_right (all_stay p) (flat_map all_stay ps) (stays_for part why) (answered ps part whys why (k, omega arith, e) w)
@@ -43,7 +43,7 @@ some_same e = cc
 pub left_is_answered : LeftIsAnswered
 left_is_answered unread file new stays parts part whys why e p j w =
     let there : option_map (found unread new) (Some parts) ≡ Some stays = ap (option_map (found unread new)) (sym p) ∙ found_there unread file new stays e in
-    subst (λ (list : List Stays). Contains list (stays_for part why)) (some_same there) (answered _ part whys why j w)
+    subst (λ (list : List Remaining). Contains list (stays_for part why)) (some_same there) (answered _ part whys why j w)
 
 -- ---- portions
 
@@ -101,7 +101,7 @@ both : (b : Bool) → b ≡ true → b ≡ false → ⊥
 both b t f = cc
 
 -- the reasons of one are its own
-own_from : (unread : Unread) (file : List ℕ) (parts : List Part) (whys : List Why) (left : ℕ) (part : Part)
+own_from : (unread : Unread) (file : List ℕ) (parts : List Part) (whys : List Reason) (left : ℕ) (part : Part)
     → AllExtended (take left parts) → Contains parts part → is_extended part.kind ≡ false
     → Contains (judged_from unread file (whys, left) parts) (part, part_reasons unread part.kind (data_of part file))
 own_from unread file [] whys left part x h other = absurd (let within = h.1 in omega arith)
@@ -110,8 +110,8 @@ own_from unread file (p ∷ ps) whys (suc left) part x (zero, within, e) other =
 own_from unread file (p ∷ ps) whys (suc left) part x (suc k, within, e) other =
     further _ _ _ (own_from unread file ps whys left part x.1 (k, omega arith, e) other)
 own_from unread file (p ∷ ps) whys zero part x (zero, within, e) other =
-    let single : ℕ → Part × List Why = λ m. (p, front_reasons unread file m p ps) in
-    let own : Part → Part × List Why = λ q. (q, part_reasons unread q.kind (data_of q file)) in
+    let single : ℕ → Part × List Reason = λ m. (p, front_reasons unread file m p ps) in
+    let own : Part → Part × List Reason = λ q. (q, part_reasons unread q.kind (data_of q file)) in
     here _ _ _ (ap single (not_joined file p ps (ap (λ (q : Part). is_extended q.kind) e ∙ other)) ∙ ap own e)
 own_from unread file (p ∷ ps) whys zero part x (suc k, within, e) other =
     let n : ℕ = joined_len file (p ∷ ps) in

@@ -7,7 +7,7 @@ use Rattle.exif_privacy.specs.Erasing.{next_erased, parts_erased}
 use Rattle.exif_privacy.specs.Judging.{first_reasons, front_reasons}
 use Rattle.exif_privacy.specs.Parts.{part_reasons}
 use Rattle.exif_privacy.specs.Portions.{joined, joined_len}
-use Rattle.exif_privacy.specs.declared.stays.Why.{Why}
+use Rattle.exif_privacy.specs.declared.remaining.Reason.{Reason}
 use Rattle.exif_locations.specs.declared.unread.Unread.{Unread}
 
 reasons_of : (unread : Unread) (file : List ℕ) (p : Part) (ps : List Part) (n : ℕ) → (n ≡ 0 → ⊥)
@@ -16,7 +16,7 @@ reasons_of unread file p ps zero some = absurd (some refl)
 reasons_of unread file p ps (suc n) some = refl
 
 -- the reasons of one that begins a packet are those of the packet
-pub first_joined : (unread : Unread) (file : List ℕ) (parts : List Part) (n : ℕ) (whys : List Why) → n ≡ joined_len file parts → (n ≡ 0 → ⊥)
+pub first_joined : (unread : Unread) (file : List ℕ) (parts : List Part) (n : ℕ) (whys : List Reason) → n ≡ joined_len file parts → (n ≡ 0 → ⊥)
     → whys ≡ part_reasons unread kind.Xmp (joined (take n parts) file) → (whys, n - 1) ≡ first_reasons unread file parts
 first_joined unread file [] n whys e some w = absurd (some e)
 first_joined unread file (p ∷ ps) n whys e some w =

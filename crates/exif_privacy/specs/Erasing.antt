@@ -10,24 +10,24 @@ use Rattle.exif_privacy.specs.Files.{parts_of}
 use Rattle.exif_privacy.specs.Judging.{judged}
 use Rattle.exif_privacy.specs.Parts.{part_answer}
 use Rattle.exif_privacy.specs.Portions.{joined, joined_len, put_back}
-use Rattle.exif_privacy.specs.declared.stays.Stays.{Stays}
-use Rattle.exif_privacy.specs.declared.stays.Why.{Why}
+use Rattle.exif_privacy.specs.declared.remaining.Remaining.{Remaining}
+use Rattle.exif_privacy.specs.declared.remaining.Reason.{Reason}
 use Rattle.exif_locations.specs.declared.unread.Unread.{Unread}
 
 -- a part that may hold a location, for a reason
-abbrev pub stays_for : Part → Why → Stays
+abbrev pub stays_for : Part → Reason → Remaining
 stays_for part why = record { part = part; why = why }
 
 -- so for each of its reasons
-abbrev pub all_stay : Part × List Why → List Stays
+abbrev pub all_stay : Part × List Reason → List Remaining
 all_stay (part, whys) = map (stays_for part) whys
 
 -- the parts of a file that may hold a location
-abbrev pub found : Unread → List ℕ → List Part → List Stays
+abbrev pub found : Unread → List ℕ → List Part → List Remaining
 found unread file parts = flat_map all_stay (judged unread file parts)
 
 -- the same of all its parts, if its format is known
-abbrev pub found_in : Unread → List ℕ → Option (List Stays)
+abbrev pub found_in : Unread → List ℕ → Option (List Remaining)
 found_in unread file = option_map (found unread file) (parts_of file)
 
 -- a file without the locations of a part
@@ -72,6 +72,6 @@ erased_by unread file (Some parts) = mended file parts (parts_erased unread 0 pa
 
 -- a file without the locations of its parts, and those that may still hold one then, if its format
 -- is known
-abbrev pub erased : Unread → List ℕ → List ℕ × Option (List Stays)
+abbrev pub erased : Unread → List ℕ → List ℕ × Option (List Remaining)
 erased unread file =
     let new = erased_by unread file (parts_of file) in (new, found_in unread new)

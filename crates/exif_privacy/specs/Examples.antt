@@ -8,7 +8,7 @@ use Rattle.exif_locations.specs.XmpTokens.{attribute_at, content_at, markup_at, 
 use Rattle.exif_privacy.specs.Erasing.{found, parts_erased, stays_for}
 use Rattle.exif_privacy.specs.Parts.{part_answer, part_reasons}
 use Rattle.exif_privacy.specs.Portions.{joined, joined_len, run_len}
-use Rattle.exif_privacy.specs.declared.stays.Why.TheVariants.{NotJudged, StillThere}
+use Rattle.exif_privacy.specs.declared.remaining.Reason.TheVariants.{NotJudged, StillThere}
 use Rattle.exif_locations.specs.declared.unread.Unread.TheVariants.{Keep}
 
 -- a comment of zeros holds nothing, another one may hold a location

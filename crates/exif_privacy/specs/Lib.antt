@@ -1,6 +1,6 @@
 pub mod Data
 pub mod Parts
-pub mod StaysTexts
+pub mod RemainingTexts
 pub mod Files
 pub mod Portions
 pub mod Judging

@@ -12,34 +12,34 @@ use Rattle.exif_privacy.specs.Files.{parts_of}
 use Rattle.exif_privacy.specs.Judging.{judged}
 use Rattle.exif_privacy.specs.Parts.{part_reasons}
 use Rattle.exif_privacy.specs.Portions.{is_extended}
-use Rattle.exif_privacy.specs.declared.stays.Stays.{Stays}
-use Rattle.exif_privacy.specs.declared.stays.Why.{Why}
-use Rattle.exif_privacy.specs.declared.stays.Why.TheVariants.{GpsVersion, StillThere}
+use Rattle.exif_privacy.specs.declared.remaining.Remaining.{Remaining}
+use Rattle.exif_privacy.specs.declared.remaining.Reason.{Reason}
+use Rattle.exif_privacy.specs.declared.remaining.Reason.TheVariants.{GpsVersion, StillThere}
 use Rattle.exif_locations.specs.declared.unread.Unread.{Unread}
 
 -- whether a reason is that something would be erased
-abbrev pub is_still_there : Why → Bool
+abbrev pub is_still_there : Reason → Bool
 is_still_there StillThere = true
 is_still_there GpsVersion = true
 is_still_there _ = false
 
 -- whether a part is answered for that
-abbrev pub would_change : Stays → Bool
+abbrev pub would_change : Remaining → Bool
 would_change stays = is_still_there stays.why
 
 -- where no part of an answer would change, the new file erased again is itself, and has the same
 -- answer
 abbrev pub TwiceIsOnce : Type 0
 TwiceIsOnce =
-    (unread : Unread) (file new : List ℕ) (stays : List Stays)
+    (unread : Unread) (file new : List ℕ) (stays : List Remaining)
     → erased unread file ≡ (new, Some stays) → list_any would_change stays ≡ false
     → erased unread new ≡ (new, Some stays)
 
 -- each part of the new file is in the answer, for each reason that it has there
 abbrev pub LeftIsAnswered : Type 0
 LeftIsAnswered =
-    (unread : Unread) (file new : List ℕ) (stays : List Stays) (parts : List Part) (part : Part)
-    (whys : List Why) (why : Why)
+    (unread : Unread) (file new : List ℕ) (stays : List Remaining) (parts : List Part) (part : Part)
+    (whys : List Reason) (why : Reason)
     → erased unread file ≡ (new, Some stays) → parts_of new ≡ Some parts
     → Contains (judged unread new parts) (part, whys) → Contains whys why
     → Contains stays (stays_for part why)

@@ -13,7 +13,7 @@ use crate::part::erase_part;
 use crate::parts::parts_of;
 use crate::portions::{join, joined_len, put_back};
 use crate::reasons::Reasons;
-use crate::stays::{Stays, Why};
+use crate::remaining::{Reason, Remaining};
 use exif_containers::png::is_png;
 use exif_inventory::{Kind, Part};
 use exif_locations::Unread;
@@ -149,11 +149,11 @@ fn erase_all(alloc: Global, unread: Unread, file: &mut [u8]) -> Result<(), Alloc
 }
 
 // Notes that a part may hold a location, for each reason.
-fn note_all(part: Part, whys: &[Why], stays: &mut Vec<Stays>) -> Result<(), AllocError>
+fn note_all(part: Part, whys: &[Reason], stays: &mut Vec<Remaining>) -> Result<(), AllocError>
     ensures { OnOk result (stays.new.items ≡ stays.old.items ++ map (stays_for part) whys.now) }
 {
     for why in whys {
-        stays.push(Stays { part, why: *why })?;
+        stays.push(Remaining { part, why: *why })?;
     }
     Ok(())
 }
@@ -164,7 +164,7 @@ fn find(
     unread: Unread,
     file: &[u8],
     parts: &[Part],
-) -> Result<Vec<Stays>, AllocError>
+) -> Result<Vec<Remaining>, AllocError>
     requires { All (EndsIn (length file.now)) parts.now }
     ensures { IfOk result (λ stays. stays.items ≡ found unread file.now parts.now) }
 {
@@ -178,7 +178,11 @@ fn find(
 }
 
 // The parts of a file that may hold a location.
-fn find_all(alloc: Global, unread: Unread, file: &[u8]) -> Result<Option<Vec<Stays>>, AllocError>
+fn find_all(
+    alloc: Global,
+    unread: Unread,
+    file: &[u8],
+) -> Result<Option<Vec<Remaining>>, AllocError>
     ensures { IfOk result (λ stays. option_map (λ v. v.items) stays
         ≡ found_in unread file.now) }
 {
@@ -209,7 +213,7 @@ pub fn erase_locations(
     alloc: Global,
     file: &mut [u8],
     unread: Unread,
-) -> Result<Option<Vec<Stays>>, AllocError>
+) -> Result<Option<Vec<Remaining>>, AllocError>
     ensures value { IfOk result (λ stays. (file.new, option_map (λ v. v.items) stays)
         ≡ erased unread file.old) }
     ensures others { OthersStayIn (parts_of file.old) file.old file.new }

@@ -11,10 +11,10 @@ mod part;
 mod parts;
 mod portions;
 mod reasons;
-mod stays;
+mod remaining;
 
 pub use erase::erase_locations;
 pub use exif_locations::Unread;
 pub use parts::parts_of;
 pub use reasons::Reasons;
-pub use stays::{Stays, Why};
+pub use remaining::{Reason, Remaining};

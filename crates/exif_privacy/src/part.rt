@@ -7,14 +7,14 @@ ghost use Rattle.exif_data_locations.specs.Regions.{all_zero};
 ghost use Rattle.exif_privacy.specs.Promises.{is_searched};
 ghost use Rattle.exif_data_locations.specs.Locations.{data_erased};
 
-use crate::stays::Why;
+use crate::remaining::Reason;
 use exif_inventory::Kind;
 use exif_locations::texts::{iptc_has_texts, xmp_has_texts};
 use exif_locations::{Unread, unread};
 use std::alloc::{AllocError, Global};
 
 // A reason, if there is one.
-fn listed(alloc: Global, why: Option<Why>) -> Result<Vec<Why>, AllocError>
+fn listed(alloc: Global, why: Option<Reason>) -> Result<Vec<Reason>, AllocError>
     ensures { IfOk result (λ whys. whys.items ≡ option_to_list why) }
 {
     let mut whys = Vec::new(alloc);
@@ -25,54 +25,57 @@ fn listed(alloc: Global, why: Option<Why>) -> Result<Vec<Why>, AllocError>
 }
 
 // Erases the locations of an XMP packet.
-fn erase_xmp(bytes: &mut [u8], unread: Unread) -> Option<Why>
+fn erase_xmp(bytes: &mut [u8], unread: Unread) -> Option<Reason>
     ensures { (bytes.new, result) ≡ xmp_answer unread bytes.old }
 {
     match unread::erase_xmp(unread, bytes) {
-        Some(fault) => Some(Why::XmpNotRead(fault)),
+        Some(fault) => Some(Reason::XmpNotRead(fault)),
         None => None,
     }
 }
 
 // Erases the locations of IPTC data.
-fn erase_iptc(bytes: &mut [u8], unread: Unread) -> Option<Why>
+fn erase_iptc(bytes: &mut [u8], unread: Unread) -> Option<Reason>
     ensures { (bytes.new, result) ≡ iptc_answer unread bytes.old }
 {
     match unread::erase_iptc(unread, bytes) {
-        Some(fault) => Some(Why::IptcNotRead(fault)),
+        Some(fault) => Some(Reason::IptcNotRead(fault)),
         None => None,
     }
 }
 
 // Erases the locations of an XMP packet, which may hold texts.
-fn judge_xmp(bytes: &mut [u8], unread: Unread) -> Option<Why>
+fn judge_xmp(bytes: &mut [u8], unread: Unread) -> Option<Reason>
     ensures { (bytes.new, result) ≡ xmp_judged unread bytes.old }
 {
     match erase_xmp(bytes, unread) {
-        None if xmp_has_texts(bytes) => Some(Why::Texts),
+        None if xmp_has_texts(bytes) => Some(Reason::Texts),
         why => why,
     }
 }
 
 // The same of IPTC data.
-fn judge_iptc(bytes: &mut [u8], unread: Unread) -> Option<Why>
+fn judge_iptc(bytes: &mut [u8], unread: Unread) -> Option<Reason>
     ensures { (bytes.new, result) ≡ iptc_judged unread bytes.old }
 {
     match erase_iptc(bytes, unread) {
-        None if iptc_has_texts(bytes) => Some(Why::Texts),
+        None if iptc_has_texts(bytes) => Some(Reason::Texts),
         why => why,
     }
 }
 
 // The reasons of Exif data as those of a part.
-fn all_in_exif(alloc: Global, whys: &[exif_data_locations::Why]) -> Result<Vec<Why>, AllocError>
-    ensures { IfOk result (λ all. all.items ≡ map Why.InExif whys.now) }
+fn all_in_exif(
+    alloc: Global,
+    whys: &[exif_data_locations::Reason],
+) -> Result<Vec<Reason>, AllocError>
+    ensures { IfOk result (λ all. all.items ≡ map Reason.InExif whys.now) }
 {
-    whys.iter().map(|why| Why::InExif(*why)).collect(alloc)
+    whys.iter().map(|why| Reason::InExif(*why)).collect(alloc)
 }
 
 // Erases the locations of Exif data.
-fn erase_exif(alloc: Global, unread: Unread, bytes: &mut [u8]) -> Result<Vec<Why>, AllocError>
+fn erase_exif(alloc: Global, unread: Unread, bytes: &mut [u8]) -> Result<Vec<Reason>, AllocError>
     ensures { IfOk result (λ whys. (bytes.new, whys.items)
         ≡ in_exif (data_erased unread bytes.old)) }
 {
@@ -88,18 +91,18 @@ fn all_zero(bytes: &[u8]) -> bool
 }
 
 // Why data that are not looked at may hold a location.
-fn unjudged(bytes: &[u8]) -> Option<Why>
+fn unjudged(bytes: &[u8]) -> Option<Reason>
     ensures { result ≡ unjudged bytes.now }
 {
     if all_zero(bytes) {
         None
     } else {
-        Some(Why::NotJudged)
+        Some(Reason::NotJudged)
     }
 }
 
 // The same of those behind so many.
-fn unjudged_behind(n: usize, bytes: &[u8]) -> Option<Why>
+fn unjudged_behind(n: usize, bytes: &[u8]) -> Option<Reason>
     ensures { result ≡ unjudged (drop n bytes.now) }
 {
     match bytes.get(n..) {
@@ -114,7 +117,7 @@ pub fn erase_part(
     unread: Unread,
     kind: Kind,
     bytes: &mut [u8],
-) -> Result<Vec<Why>, AllocError>
+) -> Result<Vec<Reason>, AllocError>
     ensures value { IfOk result (λ whys. (bytes.new, whys.items)
         ≡ part_answer unread kind bytes.old) }
     ensures others { is_searched kind ≡ false → bytes.new ≡ bytes.old }
@@ -140,7 +143,7 @@ pub fn erase_part(
 }
 
 // Why Exif data whose GPS data are no version alone may hold a location, by a copy of them.
-fn exif_reasons(alloc: Global, unread: Unread, bytes: &[u8]) -> Result<Vec<Why>, AllocError>
+fn exif_reasons(alloc: Global, unread: Unread, bytes: &[u8]) -> Result<Vec<Reason>, AllocError>
     ensures { IfOk result (λ whys. whys.items ≡ exif_reasons unread bytes.now) }
 {
     let mut new = Vec::from_slice(alloc, bytes)?;
@@ -148,16 +151,16 @@ fn exif_reasons(alloc: Global, unread: Unread, bytes: &[u8]) -> Result<Vec<Why>,
     if new.as_slice() == bytes {
         Ok(whys)
     } else {
-        listed(alloc, Some(Why::StillThere))
+        listed(alloc, Some(Reason::StillThere))
     }
 }
 
 // Those of Exif data without the version of their GPS data, behind the reason of that.
-fn behind_version(alloc: Global, unread: Unread, bytes: &[u8]) -> Result<Vec<Why>, AllocError>
-    ensures { IfOk result (λ whys. whys.items ≡ Why.GpsVersion ∷ exif_reasons unread bytes.now) }
+fn behind_version(alloc: Global, unread: Unread, bytes: &[u8]) -> Result<Vec<Reason>, AllocError>
+    ensures { IfOk result (λ whys. whys.items ≡ Reason.GpsVersion ∷ exif_reasons unread bytes.now) }
 {
     let whys = exif_reasons(alloc, unread, bytes)?;
-    let mut all = listed(alloc, Some(Why::GpsVersion))?;
+    let mut all = listed(alloc, Some(Reason::GpsVersion))?;
     all.extend_from_slice(whys.as_slice())?;
     Ok(all)
 }
@@ -168,21 +171,21 @@ fn changed_reasons(
     unread: Unread,
     kind: Kind,
     bytes: &[u8],
-) -> Result<Vec<Why>, AllocError>
+) -> Result<Vec<Reason>, AllocError>
     ensures { IfOk result (λ whys. whys.items
         ≡ changed_reasons (version_reasons unread kind bytes.now)) }
 {
     if !matches!(kind, Kind::Exif | Kind::PhotoshopExif) {
-        return listed(alloc, Some(Why::StillThere));
+        return listed(alloc, Some(Reason::StillThere));
     }
     match exif_data_locations::without_version(alloc, bytes)? {
         Some(new) => behind_version(alloc, unread, new.as_slice()),
-        None => listed(alloc, Some(Why::StillThere)),
+        None => listed(alloc, Some(Reason::StillThere)),
     }
 }
 
 // Why data that are searched may hold a location, by a copy of them.
-fn tried(alloc: Global, unread: Unread, kind: Kind, bytes: &[u8]) -> Result<Vec<Why>, AllocError>
+fn tried(alloc: Global, unread: Unread, kind: Kind, bytes: &[u8]) -> Result<Vec<Reason>, AllocError>
     ensures { IfOk result (λ whys. whys.items ≡ part_reasons unread kind bytes.now) }
 {
     let mut new = Vec::from_slice(alloc, bytes)?;
@@ -201,7 +204,7 @@ pub fn part_reasons(
     unread: Unread,
     kind: Kind,
     bytes: &[u8],
-) -> Result<Vec<Why>, AllocError>
+) -> Result<Vec<Reason>, AllocError>
     ensures { IfOk result (λ whys. whys.items ≡ part_reasons unread kind bytes.now) }
 {
     match kind {

@@ -6,7 +6,7 @@ ghost use Rattle.exif_privacy.specs.Judging.{first_reasons, next_reasons, reason
 
 use crate::part::part_reasons;
 use crate::portions::{data_of, join, joined_len};
-use crate::stays::Why;
+use crate::remaining::Reason;
 use exif_inventory::{Kind, Part};
 use exif_locations::Unread;
 use std::alloc::{AllocError, Global};
@@ -15,7 +15,7 @@ use std::alloc::{AllocError, Global};
 #[derive(Drop)]
 pub struct Reasons {
     /// The reasons: none, if it holds no location.
-    pub whys: Vec<Why>,
+    pub whys: Vec<Reason>,
     /// How many parts follow that have the same: the other portions of an extended XMP packet.
     pub left: usize,
 }

@@ -1,7 +1,7 @@
 -- What a change makes of a file.
 use Rattle.std.specs.Prelude.{◌≡◌, ℕ, List, [], length, Result, Ok, Err}
 use Rattle.exif_change.specs.Changed as changed
-use Rattle.exif_change.specs.Refusals.{Why}
+use Rattle.exif_change.specs.Refusals.{Reason}
 use Rattle.exif_change.specs.declared.notes.Color.TheVariants.{Keep, Strip}
 use Rattle.exif_change.specs.declared.notes.Note.{Note}
 use Rattle.exif_copy.specs.Selected.{selected}
@@ -11,7 +11,7 @@ use Rattle.exif_session.specs.declared.request.Change.TheVariants.{Copy, Scrub, 
 
 -- the metadata are removed, the values are set, the dates are moved, or the Exif data of another
 -- picture are put into it; or why not
-abbrev pub answer_of : Change → List ℕ → Result changed.Change Why
+abbrev pub answer_of : Change → List ℕ → Result changed.Change Reason
 answer_of (Scrub removed Keep) old = picture_scrubbed removed old
 answer_of (Scrub removed Strip) old = picture_scrubbed_with_color removed old
 answer_of (Set values) old = picture_set values.items old
@@ -19,12 +19,12 @@ answer_of (Shift by dates) old = picture_shifted by dates old
 answer_of (Copy from selection) old = selected selection from.items old
 
 -- the new bytes alone
-abbrev pub file_of : Result changed.Change Why → Result (List ℕ) Why
+abbrev pub file_of : Result changed.Change Reason → Result (List ℕ) Reason
 file_of (Ok made) = Ok made.file
 file_of (Err why) = Err why
 
 -- how many things are left undone in the new file
-abbrev pub undone_by : Result changed.Change Why → ℕ
+abbrev pub undone_by : Result changed.Change Reason → ℕ
 undone_by (Ok made) = length made.undone
 undone_by (Err why) = 0
 

@@ -6,7 +6,7 @@ ghost use Rattle.exif_change.specs.Refusals.{Answers, Fails};
 ghost use Rattle.exif_session.specs.Answers.{IsAnswerOf, answer_of, notes_of, undone_in};
 
 use crate::request::Change;
-use exif_change::{Changed, Color, Left, Note, Refusal};
+use exif_change::{Changed, Color, Note, Refusal, Residual};
 use exif_copy::copy_selected;
 use exif_files::{Edit, EditError, Edited, Report};
 use exif_pictures::{scrub, scrub_notes, scrub_with_color, set, shift};
@@ -44,7 +44,7 @@ pub fn notes_of(alloc: Global, change: &Change<'_>, old: &[u8]) -> Result<Vec<No
 pub struct ChangeEdit<'c, 'a>(pub &'c Change<'a>);
 
 impl<'c, 'a> Edit for ChangeEdit<'c, 'a> {
-    type Left = Left;
+    type Residual = Residual;
 
     type Note = Note;
 
@@ -54,7 +54,11 @@ impl<'c, 'a> Edit for ChangeEdit<'c, 'a> {
 
     ghost undone = { λ edit. undone_in edit.0.now };
 
-    fn apply(&self, alloc: Global, old: &[u8]) -> Result<Edited<Left, Note>, EditError<Refusal>> {
+    fn apply(
+        &self,
+        alloc: Global,
+        old: &[u8],
+    ) -> Result<Edited<Residual, Note>, EditError<Refusal>> {
         let Ok(notes) = notes_of(alloc, self.0, old) else {
             return Err(EditError::OutOfMemory);
         };

@@ -14,7 +14,7 @@ use crate::output::{OutError, out_of, write_out};
 use crate::request::{Change, Task};
 use crate::session::{Session, Stop};
 use exif::Sink;
-use exif_change::{Left, Refusal};
+use exif_change::{Refusal, Residual};
 use exif_decisions::Outcome;
 use exif_inputs::read_file;
 
@@ -59,7 +59,7 @@ pub fn change_into<W: Sink, E: Sink>(
 fn end_into<W: Sink, E: Sink>(
     session: &mut Session<'_, '_, W, E>,
     path: &str,
-    left: &[Left],
+    left: &[Residual],
     written: Result<(), OutError>,
 ) -> Result<Outcome, Stop>
     ensures done { IfOk written (λ t. IfOk result (λ outcome.

@@ -19,7 +19,7 @@ use crate::notes::{NoteLine, said_notes};
 use crate::request::Change;
 use crate::session::{Item, Session, Stop};
 use exif::Sink;
-use exif_change::{Left, Note, Refusal};
+use exif_change::{Note, Refusal, Residual};
 use exif_decisions::{Counts, Escaped, Outcome};
 use exif_files::{
     Failure, HostFiles, Keeping, Report, Reporter, WriteError, change_all, folder_of,
@@ -247,7 +247,7 @@ struct Messages<'p, 'c, 'r, E> {
 
 impl<'p, 'c, 'r, E: Sink> Messages<'p, 'c, 'r, E> {
     // Writes what was left undone in a changed file, and its notes.
-    fn say_all(&mut self, path: &str, report: &Report<Left, Note>) {
+    fn say_all(&mut self, path: &str, report: &Report<Residual, Note>) {
         for left in report.left.iter() {
             self.console.say(path, left);
         }
@@ -257,10 +257,10 @@ impl<'p, 'c, 'r, E: Sink> Messages<'p, 'c, 'r, E> {
     }
 }
 
-impl<'p, 'c, 'r, E: Sink> Reporter<Left, Note, Refusal> for Messages<'p, 'c, 'r, E> {
+impl<'p, 'c, 'r, E: Sink> Reporter<Residual, Note, Refusal> for Messages<'p, 'c, 'r, E> {
     ghost heard = { λ messages. messages.heard };
 
-    fn report(&mut self, outcome: Result<Report<Left, Note>, Failure<Refusal>>)
+    fn report(&mut self, outcome: Result<Report<Residual, Note>, Failure<Refusal>>)
         requires { self.old.heard + 1 < 2 ^ 64 }
         ensures { self.new.heard ≡ self.old.heard + 1 }
     {

@@ -16,7 +16,7 @@ use std::test::Fail;
 struct Unspaced;
 
 impl Edit for Unspaced {
-    type Left = u8;
+    type Residual = u8;
 
     type Note = u8;
 
@@ -225,7 +225,7 @@ struct Disturbed<'r> {
 }
 
 impl Edit for Disturbed<'_> {
-    type Left = u8;
+    type Residual = u8;
 
     type Note = u8;
 

@@ -1,10 +1,10 @@
 use Rattle.std.proofs.Common.{List, ap, sym, ◌∙◌}
 use Rattle.exif_data_locations.proofs.Refused.{own_refused}
-use Rattle.exif_data_locations.specs.declared.why.Why.{Why}
+use Rattle.exif_data_locations.specs.declared.reason.Reason.{Reason}
 use Rattle.exif_data_locations.proofs.erase.erase_own.Goals as goal
 
 pub returns-in-Err-Header-clause-erased : goal.returns-in-Err-Header-clause-erased
 returns-in-Err-Header-clause-erased c =
-    ap (λ (whys : List Why). (c.args.bytes.now, whys)) c.in_ok-unchanged-in-Err-Header.ensures
+    ap (λ (whys : List Reason). (c.args.bytes.now, whys)) c.in_ok-unchanged-in-Err-Header.ensures
     ∙ sym (own_refused c.args.unread c.args.bytes.now c.in-Err-Header.field-0-0
     (rw c.in-Err-Header.field-0-is at c.in-Err-Header.ensures.reads))

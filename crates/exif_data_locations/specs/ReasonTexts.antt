@@ -3,11 +3,11 @@ use Rattle.std.specs.Prelude.{ℕ, List, ◌++◌, codes}
 use Rattle.std.specs.Fmt.{decimal}
 use Rattle.exif_locations.specs.FaultTexts.{iptc_text, xmp_text}
 use Rattle.exif_types.specs.TagTexts.{tag_text}
-use Rattle.exif_data_locations.specs.declared.why.Why.{Why}
-use Rattle.exif_data_locations.specs.declared.why.Why.TheVariants as why
+use Rattle.exif_data_locations.specs.declared.reason.Reason.{Reason}
+use Rattle.exif_data_locations.specs.declared.reason.Reason.TheVariants as why
 
 -- why Exif data may still hold a location
-abbrev pub why_text : Why → List ℕ
+abbrev pub why_text : Reason → List ℕ
 why_text why.NotChanged = codes "the data can't be read"
 why_text why.GpsShared = codes "GPS data share their bytes with other data"
 why_text why.GpsNotFollowed = codes "GPS pointers are not followed"

@@ -1,4 +1,4 @@
-use Rattle.exif_data_locations.proofs.why.WhyDisplay.fmt.Goals as goal
+use Rattle.exif_data_locations.proofs.reason.ReasonDisplay.fmt.Goals as goal
 
 pub returns-in-XmpNotRead-clause-writes : goal.returns-in-XmpNotRead-clause-writes
 returns-in-XmpNotRead-clause-writes g c =

@@ -11,7 +11,7 @@ use std::fmt;
 
 /// Why Exif data may still hold a location.
 #[derive(Clone, Copy, Debug)]
-pub enum Why {
+pub enum Reason {
     /// The data can't be read, or have too many entries: they are as they were.
     NotChanged,
     /// GPS data use bytes that have another use, too: they are as they were.
@@ -52,47 +52,47 @@ pub enum Why {
     Shared,
 }
 
-impl Why {
+impl Reason {
     /// Whether what can't be read would be overwritten with
     /// [`Unread::Blank`](exif_locations::Unread).
     pub fn can_be_blanked(self) -> bool
         ensures { result ≡ can_be_blanked self }
     {
-        matches!(self, Why::XmpNotRead(..) | Why::IptcNotRead(..))
+        matches!(self, Reason::XmpNotRead(..) | Reason::IptcNotRead(..))
     }
 }
 
-impl fmt::Display for Why {
-    ghost use Rattle.exif_data_locations.specs.WhyTexts.{why_text};
+impl fmt::Display for Reason {
+    ghost use Rattle.exif_data_locations.specs.ReasonTexts.{why_text};
 
     ghost output = { λ why. Some (why_text why) };
 
     fn fmt<W: fmt::Write>(&self, f: &mut fmt::Formatter<W>) -> fmt::Result {
         match *self {
-            Why::NotChanged => write!(f, "the data can't be read"),
-            Why::GpsShared => write!(f, "GPS data share their bytes with other data"),
-            Why::GpsNotFollowed => write!(f, "GPS pointers are not followed"),
-            Why::NotReadWhole => write!(f, "some of the data can't be read"),
-            Why::SubIfdsNotRead => write!(f, "SubIFDs are not read"),
-            Why::MakerNote => write!(f, "the maker note is not read"),
-            Why::StreamsNotSearched => {
+            Reason::NotChanged => write!(f, "the data can't be read"),
+            Reason::GpsShared => write!(f, "GPS data share their bytes with other data"),
+            Reason::GpsNotFollowed => write!(f, "GPS pointers are not followed"),
+            Reason::NotReadWhole => write!(f, "some of the data can't be read"),
+            Reason::SubIfdsNotRead => write!(f, "SubIFDs are not read"),
+            Reason::MakerNote => write!(f, "the maker note is not read"),
+            Reason::StreamsNotSearched => {
                 write!(f, "the JPEG streams of the picture are not searched")
             }
-            Why::XmpNotRead(tag, fault) => {
+            Reason::XmpNotRead(tag, fault) => {
                 write!(f, "the XMP packet of tag {tag} can't be read ({fault})")
             }
-            Why::IptcNotRead(tag, fault) => {
+            Reason::IptcNotRead(tag, fault) => {
                 write!(f, "the IPTC data of tag {tag} can't be read ({fault})")
             }
-            Why::ResourcesNotRead => write!(f, "resources of Photoshop can't be read"),
-            Why::ExifResource => write!(f, "a resource of Photoshop holds Exif data"),
-            Why::OtherResource => write!(f, "a resource of Photoshop is not searched"),
-            Why::Texts(tag) => write!(f, "texts of tag {tag} are not judged"),
-            Why::Text(tag) => write!(f, "the text of {tag} is not judged"),
-            Why::NotSearched(tag) => write!(f, "the value of {tag} is not searched"),
-            Why::TypeNotKnown(tag) => write!(f, "the type of tag {tag} is not known"),
-            Why::Thumbnail => write!(f, "the thumbnail may hold a location"),
-            Why::Shared => write!(
+            Reason::ResourcesNotRead => write!(f, "resources of Photoshop can't be read"),
+            Reason::ExifResource => write!(f, "a resource of Photoshop holds Exif data"),
+            Reason::OtherResource => write!(f, "a resource of Photoshop is not searched"),
+            Reason::Texts(tag) => write!(f, "texts of tag {tag} are not judged"),
+            Reason::Text(tag) => write!(f, "the text of {tag} is not judged"),
+            Reason::NotSearched(tag) => write!(f, "the value of {tag} is not searched"),
+            Reason::TypeNotKnown(tag) => write!(f, "the type of tag {tag} is not known"),
+            Reason::Thumbnail => write!(f, "the thumbnail may hold a location"),
+            Reason::Shared => write!(
                 f,
                 "XMP, IPTC or GeoTIFF data, or the thumbnail, share their bytes with other data"
             ),
@@ -101,7 +101,7 @@ impl fmt::Display for Why {
 }
 
 /// Notes a reason, if a test holds.
-pub fn note_if(test: bool, why: Why, whys: &mut Vec<Why>) -> Result<(), AllocError>
+pub fn note_if(test: bool, why: Reason, whys: &mut Vec<Reason>) -> Result<(), AllocError>
     ensures { OnOk result (whys.new.items ≡ noted_if test why whys.old.items) }
 {
     if test {

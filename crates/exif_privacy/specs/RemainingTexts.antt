@@ -1,15 +1,15 @@
 -- Parts that may still hold a location, in words.
 use Rattle.std.specs.Prelude.{ℕ, List, ◌++◌, codes}
 use Rattle.std.specs.Fmt.{decimal}
-use Rattle.exif_data_locations.specs.WhyTexts.{why_text}
-use Rattle.exif_data_locations.specs.declared.why.Why as data_why
-use Rattle.exif_data_locations.specs.declared.why.Why.TheVariants as in_data
+use Rattle.exif_data_locations.specs.ReasonTexts.{why_text}
+use Rattle.exif_data_locations.specs.declared.reason.Reason as data_why
+use Rattle.exif_data_locations.specs.declared.reason.Reason.TheVariants as in_data
 use Rattle.exif_inventory.specs.KindTexts.{kind_text}
 use Rattle.exif_inventory.specs.declared.kind.Kind.{Kind}
 use Rattle.exif_locations.specs.FaultTexts.{iptc_text, xmp_text}
-use Rattle.exif_privacy.specs.declared.stays.Stays.{Stays}
-use Rattle.exif_privacy.specs.declared.stays.Why.{Why}
-use Rattle.exif_privacy.specs.declared.stays.Why.TheVariants as why
+use Rattle.exif_privacy.specs.declared.remaining.Remaining.{Remaining}
+use Rattle.exif_privacy.specs.declared.remaining.Reason.{Reason}
+use Rattle.exif_privacy.specs.declared.remaining.Reason.TheVariants as why
 
 -- a text, a part by its kind and its offset, and another text
 abbrev pub part_text : List ℕ → Kind → ℕ → List ℕ → List ℕ
@@ -17,7 +17,7 @@ part_text before name offset behind =
     before ++ (kind_text name ++ (codes " at offset " ++ (decimal offset ++ behind)))
 
 -- why Exif data of this kind and offset may still hold a location
-abbrev pub exif_text : Kind → ℕ → data_why.Why → List ℕ
+abbrev pub exif_text : Kind → ℕ → data_why.Reason → List ℕ
 exif_text name offset in_data.NotChanged =
     part_text (codes "still there: ") name offset (codes ", which can't be changed")
 exif_text name offset in_data.GpsShared =
@@ -29,7 +29,7 @@ exif_text name offset why =
     part_text (codes "a location may be left in ") name offset (codes ": " ++ why_text why)
 
 -- why a part of this kind and offset may still hold a location
-abbrev pub reason_text : Kind → ℕ → Why → List ℕ
+abbrev pub reason_text : Kind → ℕ → Reason → List ℕ
 reason_text name offset (why.XmpNotRead fault) =
     part_text (codes "still there: ") name offset
     (codes ", which can't be read (" ++ (xmp_text fault ++ codes ")"))
@@ -50,5 +50,5 @@ reason_text name offset why.GpsVersion =
     ++ (codes " at offset " ++ decimal offset))
 
 -- a part that may still hold a location
-abbrev pub stays_text : Stays → List ℕ
+abbrev pub stays_text : Remaining → List ℕ
 stays_text stays = reason_text stays.part.kind stays.part.offset stays.why
