@@ -34,7 +34,8 @@ abbrev pub directory_closed : Order → List ℕ → Bool → ℕ → ℕ → �
 directory_closed order old keeps_orientation p count (kept, new) =
     kept_bytes (spelled order 2 kept) 0 2 p new
     >>= λ counted. kept_bytes old (p + 2 + 12 * count) 4 (p + 2 + 12 * kept) counted
-    >>= λ closed. picture_visited (number_of order) old (Keep keeps_orientation) count (p + 2) closed
+    >>= λ closed. picture_visited (number_of order) old (Keep keeps_orientation) count (p + 2)
+    closed
 
 -- the new file with a directory and its picture
 abbrev pub directory_kept : Order → List ℕ → Bool → Bool → ℕ → List ℕ → Result (List ℕ) Fault

@@ -104,7 +104,8 @@ tables_tested number old e = do
   count ← count_of number old e
   tables_by number old e (size_of_type kind * count)
 
--- an entry that does not describe the picture is refused, and so is one of JPEG tables with metadata
+-- an entry that does not describe the picture is refused, and so is one of JPEG tables with
+-- metadata
 abbrev pub entry_tested : Reading → List ℕ → Bool → ℕ → Result Unit Fault
 entry_tested number old keeps_orientation e =
     number_in number 2 old e

@@ -20,7 +20,8 @@ abbrev pub is_jpeg_stored : Reading → List ℕ → ℕ → ℕ → Result Bool
 is_jpeg_stored number old count first =
     entry_named number old 259 count first >>= is_jpeg_by number old
 
--- the new file where a walk comes to the strip of an index, whose offset and length two entries have
+-- the new file where a walk comes to the strip of an index, whose offset and length two entries
+-- have
 abbrev pub strip_visited : Reading → List ℕ → Handling → ℕ → ℕ → ℕ → List ℕ → Result (List ℕ) Fault
 strip_visited number old how offsets lengths index new = do
   at ← item_at number old offsets index

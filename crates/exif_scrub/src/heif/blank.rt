@@ -152,8 +152,8 @@ fn unknown_box(judged: bool) -> Blank
     if judged { Blank::Free } else { Blank::Nothing }
 }
 
-// What becomes of a box that describes pictures, or lists the items: where these are not understood,
-// it stays.
+// What becomes of a box that describes pictures, or lists the items: where these are not
+// understood, it stays.
 fn listed_box(judged: bool) -> Blank
     ensures { result ≡ listed_box judged }
 {

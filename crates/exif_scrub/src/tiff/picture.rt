@@ -71,8 +71,8 @@ fn visit_named(
     visit_strips(old, how, strips, offsets, lengths, new)
 }
 
-// What a walk does with the strips and tiles of a directory, which may be JPEG streams, and with its
-// own stream.
+// What a walk does with the strips and tiles of a directory, which may be JPEG streams, and with
+// its own stream.
 fn visit_stored(
     old: Old<'_>,
     how: Handling,
