@@ -23,6 +23,7 @@ location_names =
     codes "State" ∷  -- Photoshop
     codes "Sublocation" ∷  -- IPTC Extension, LocationDetails
     codes "WorldRegion" ∷  -- IPTC Extension, LocationDetails
+    codes "alt" ∷  -- W3C Basic Geo: the height
     codes "box" ∷  -- GeoRSS
     codes "cellid" ∷  -- the cell of a mobile network (Sony Ericsson, cell/1.0)
     codes "cgi" ∷  -- the same

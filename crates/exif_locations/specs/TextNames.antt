@@ -52,10 +52,12 @@ text_names =
     codes "PersonInImage" ∷  -- IPTC Extension
     codes "ProductInImage" ∷  -- IPTC Extension
     codes "RoutingNotes" ∷  -- Extensis
+    codes "Scene" ∷  -- IPTC Core: codes, or what a program puts there
     codes "Subject=" ∷  -- PDF: an attribute, not Exif's SubjectArea
     codes "Subject>" ∷  -- PDF: an element
     codes "SubjectCode" ∷  -- IPTC Core
     codes "SupplementalCategories" ∷  -- Photoshop
+    codes "TagName" ∷  -- IDimager
     codes "TagsList" ∷  -- digiKam
     codes "TextLayers" ∷  -- Photoshop
     codes "Title" ∷  -- PDF

@@ -5,7 +5,7 @@ ghost use Rattle.exif_locations.specs.TextNames.{no_identifiers, text_names};
 
 // How the names of properties begin that hold what people write of a picture, keywords, names, a
 // picture or an identifier, without their prefixes, in the order of their bytes.
-static TEXT_NAMES: [&str; 76] = [
+static TEXT_NAMES: [&str; 78] = [
     "//prismstandard.org/namespaces/pmi/",
     "AOContent",
     "AOContribution",
@@ -50,10 +50,12 @@ static TEXT_NAMES: [&str; 76] = [
     "PersonInImage",
     "ProductInImage",
     "RoutingNotes",
+    "Scene",
     "Subject=",
     "Subject>",
     "SubjectCode",
     "SupplementalCategories",
+    "TagName",
     "TagsList",
     "TextLayers",
     "Title",

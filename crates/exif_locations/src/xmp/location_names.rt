@@ -4,7 +4,7 @@ ghost use Rattle.std.specs.Prelude.{◌≡◌, map};
 ghost use Rattle.exif_locations.specs.LocationNames.{location_endings, location_names};
 
 // The names of properties that are a location, without their prefixes, in the order of their bytes.
-static LOCATION_NAMES: [&str; 58] = [
+static LOCATION_NAMES: [&str; 59] = [
     "City",
     "Country",
     "CountryCode",
@@ -21,6 +21,7 @@ static LOCATION_NAMES: [&str; 58] = [
     "State",
     "Sublocation",
     "WorldRegion",
+    "alt",
     "box",
     "cellid",
     "cgi",
