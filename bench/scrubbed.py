@@ -1,7 +1,7 @@
 #!/usr/bin/env python3
-"""scrubbed.py PROGRAM: what is left of the locations of tests/location_files.py by this program and by the tools that are
-installed (exiftool, exiv2, mat2). Prints a table: files changed without a word that still hold the secret, files with the
-secret where the tool said so by its status or a message, files refused, and JPEG and WebP files whose pixels differ."""
+"""scrubbed.py PROGRAM: what is left of the secrets of tests/location_files.py and secret_files.py by this program and by the
+tools that are installed (exiftool, exiv2, mat2). Prints a table: files changed without a word that still hold the secret, files
+with the secret where the tool said so by its status or a message, files refused, and JPEG and WebP files whose pixels differ."""
 import os
 import shutil
 import subprocess
@@ -69,7 +69,7 @@ def row(name, scrub, files):
 def main():
     program = os.path.abspath(sys.argv[1])
     with tempfile.TemporaryDirectory() as folder:
-        for script in ("make_files.py", "location_files.py"):
+        for script in ("make_files.py", "secret_files.py"):
             subprocess.run([sys.executable, f"{ROOT}/tests/{script}", folder], check=True)
         paths = [os.path.join(folder, name) for name in sorted(os.listdir(folder))]
         files = [path for path in paths if os.path.isfile(path) and SECRET in open(path, "rb").read()]
