@@ -1,0 +1,4 @@
+pub mod FaultLines
+pub mod IptcLines
+pub mod Lines
+pub mod XmpLines
