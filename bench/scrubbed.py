@@ -73,19 +73,21 @@ def main():
             subprocess.run([sys.executable, f"{ROOT}/tests/{script}", folder], check=True)
         paths = [os.path.join(folder, name) for name in sorted(os.listdir(folder))]
         files = [path for path in paths if os.path.isfile(path) and SECRET in open(path, "rb").read()]
+        listed = open(os.path.join(folder, "locations.list"), encoding="utf-8").read().split()
+        places = [path for path in files if os.path.basename(path) in listed or "secret_" not in os.path.basename(path)]
         tools = [
-            ("`mexaldor scrub`", program, lambda old, new: run(program, "scrub", old, new)),
-            ("`mexaldor scrub --locations-only`", program, lambda old, new: run(program, "scrub", "--locations-only", old, new)),
-            ("`exiftool -all=`", *exiftool("-all=")),
-            ("`exiftool -gps:all= -xmp:all= -iptc:all=`", *exiftool("-gps:all=", "-xmp:all=", "-iptc:all=")),
-            ("`exiv2 -d a`", "exiv2", exiv2),
-            ("`mat2`", "mat2", mat2),
+            ("`mexaldor scrub`", files, program, lambda old, new: run(program, "scrub", old, new)),
+            ("`exiftool -all=`", files, *exiftool("-all=")),
+            ("`exiv2 -d a`", files, "exiv2", exiv2),
+            ("`mat2`", files, "mat2", mat2),
+            ("`mexaldor scrub --locations-only`", places, program, lambda old, new: run(program, "scrub", "--locations-only", old, new)),
+            ("`exiftool -gps:all= -xmp:all= -iptc:all=`", places, *exiftool("-gps:all=", "-xmp:all=", "-iptc:all=")),
         ]
-        print(f"Of {len(files)} files that hold a location:\n")
+        print(f"Of {len(files)} files with a secret, of which {len(places)} hold a location, or may hold one:\n")
         print("| Tool | Clean | Left, without a word | Left, and told | Refused | Other pixels |\n|-|-|-|-|-|-|")
-        for name, needed, scrub in tools:
+        for name, chosen, needed, scrub in tools:
             if shutil.which(needed):
-                row(name, scrub, files)
+                row(name, scrub, chosen)
             else:
                 print(f"  {name}: not installed", file=sys.stderr)
 
