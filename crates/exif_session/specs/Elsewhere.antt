@@ -36,7 +36,7 @@ kept_count true changed = changed
 kept_count false changed = 0
 
 -- where what a change has removed is
-abbrev pub elsewhere : request.Change → Keeping → ℕ → ℕ → List it.Elsewhere
-elsewhere (change.Scrub removed color) keeping changed linked =
+abbrev pub removed_elsewhere : request.Change → Keeping → ℕ → ℕ → List it.Elsewhere
+removed_elsewhere (change.Scrub removed color) keeping changed linked =
     Backups (kept_count keeping.backup changed) ∷ Links linked ∷ []
-elsewhere other keeping changed linked = Backups 0 ∷ Links 0 ∷ []
+removed_elsewhere other keeping changed linked = Backups 0 ∷ Links 0 ∷ []

@@ -2,7 +2,6 @@
 use Rattle.std.specs.Prelude.{Bool, true, false, not}
 use Rattle.exif_inputs.specs.declared.inputs.Use.{Use}
 use Rattle.exif_inputs.specs.declared.inputs.Use.TheVariants.{Fields, Parts}
-use Rattle.exif_session.specs.declared.request.Renaming.{Renaming}
 use Rattle.exif_session.specs.declared.request.Target.{Target}
 use Rattle.exif_session.specs.declared.request.Target.TheVariants.{InPlace, Out}
 use Rattle.exif_session.specs.declared.request.Task.{Task}

@@ -2,7 +2,7 @@
 
 ghost use Rattle.std.specs.Prelude.{◌≡◌, Some};
 ghost use Rattle.std.specs.Fmt.{WritesOnOk};
-ghost use Rattle.exif_session.specs.Elsewhere.{backups_text, elsewhere, elsewhere_count, links_text};
+ghost use Rattle.exif_session.specs.Elsewhere.{backups_text, elsewhere_count, links_text, removed_elsewhere};
 
 use crate::request::Change;
 use exif_files::Keeping;
@@ -68,8 +68,13 @@ impl fmt::Display for Elsewhere {
 
 /// Where what a change has removed is: in the backups of so many files that were changed, if the
 /// old ones are kept, and under other names of so many.
-pub fn elsewhere(change: &Change<'_>, keeping: Keeping, changed: u64, linked: u64) -> [Elsewhere; 2]
-    ensures { result ≡ elsewhere change.now keeping changed linked }
+pub fn removed_elsewhere(
+    change: &Change<'_>,
+    keeping: Keeping,
+    changed: u64,
+    linked: u64,
+) -> [Elsewhere; 2]
+    ensures { result ≡ removed_elsewhere change.now keeping changed linked }
 {
     if !matches!(change, Change::Scrub(..)) {
         return [Elsewhere::Backups(0), Elsewhere::Links(0)];

@@ -14,7 +14,7 @@ ghost use Rattle.exif_decisions.specs.declared.outcome.Outcome.TheVariants.{Refu
 
 use crate::change::ChangeEdit;
 use crate::change_out::change_input;
-use crate::elsewhere::{Elsewhere, elsewhere};
+use crate::elsewhere::{Elsewhere, removed_elsewhere};
 use crate::notes::{NoteLine, said_notes};
 use crate::request::Change;
 use crate::session::{Item, Session, Stop};
@@ -67,7 +67,10 @@ pub fn change_in_place<W: Sink, E: Sink>(
     };
     change_files(rt, change, keeping, keys.as_slice(), &mut messages)?;
     let changed = session.pending.counts.done.saturating_sub(before);
-    say_elsewhere(session, &elsewhere(change, keeping, changed, linked))
+    say_elsewhere(
+        session,
+        &removed_elsewhere(change, keeping, changed, linked),
+    )
 }
 
 // Says where what was removed still is, but in a quiet run.
