@@ -18,6 +18,8 @@ pub enum Reason {
     Unread,
     /// At this offset the text has bytes that are no character of XML in UTF-8.
     InvalidText(usize),
+    /// The new packet would not be read as the old one with the text replaced.
+    NotReadBack,
 }
 
 /// Why a text is not set.

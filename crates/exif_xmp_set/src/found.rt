@@ -19,8 +19,8 @@ pub struct Found {
     pub form: Form,
 }
 
-// Whether a property has this namespace and path.
-fn is_named(property: &Property, namespace: &[u8], path: &[u8]) -> bool
+/// Whether a property has this namespace and path.
+pub fn is_named(property: &Property, namespace: &[u8], path: &[u8]) -> bool
     ensures { result ≡ is_named (property_view property.now) namespace.now path.now }
 {
     property.path.as_slice() == path && property.namespace.as_slice() == namespace

@@ -10,7 +10,9 @@ mod context;
 mod escaping;
 mod fault;
 mod found;
+pub mod laws;
 mod padding;
+mod read_back;
 mod set;
 
 pub use fault::{Reason, SetError};

@@ -1,7 +1,7 @@
 //! The padding at the end of a packet.
 
-ghost use Rattle.std.specs.Prelude.{◌≡◌, ◌≤◌, ◌++◌, length, IfSome, OnOk};
-ghost use Rattle.exif_xmp_set.specs.Padding.{fitted, last_gap, padding_of};
+ghost use Rattle.std.specs.Prelude.{◌≡◌, ◌≤◌, ◌+◌, ◌-◌, ◌++◌, length, IfSome, OnOk};
+ghost use Rattle.exif_xmp_set.specs.Padding.{fitted, last_gap, padding_of, room_of};
 
 use crate::context::{bytes_behind, first_bytes};
 use exif_xml::Span;
@@ -40,8 +40,25 @@ fn padding_of(tail: &[u8]) -> Option<Span>
     None
 }
 
+// The padding of a packet, of which this is the end, if it has room for a value that grows from
+// `old` bytes to `new`.
+fn room_of(tail: &[u8], old: usize, new: usize) -> Option<Span>
+    ensures value { result ≡ room_of old new tail.now }
+    ensures within { IfSome result (λ p. p.start + (new - old) ≤ length tail.now) }
+{
+    match padding_of(tail) {
+        Some(padding) => {
+            if new.saturating_sub(old) <= padding.end - padding.start {
+                return Some(padding);
+            }
+            None
+        }
+        None => None,
+    }
+}
+
 /// Appends the end of a packet, behind a value that has `new` bytes where it had `old`: its padding
-/// takes up the difference, as far as there is padding.
+/// takes up the difference, if it has room.
 pub fn push_fitted(
     alloc: Global,
     out: &mut Vec<u8>,
@@ -51,13 +68,12 @@ pub fn push_fitted(
 ) -> Result<(), AllocError>
     ensures { OnOk result (out.new.items ≡ out.old.items ++ fitted old new tail.now) }
 {
-    match padding_of(tail) {
+    match room_of(tail, old, new) {
         Some(padding) => {
-            let taken = new.saturating_sub(old).min(padding.end - padding.start);
             let spaces = vec![in alloc; b' '; old.saturating_sub(new)]?;
             out.extend_from_slice(first_bytes(tail, padding.start))?;
             out.extend_from_slice(&spaces)?;
-            out.extend_from_slice(bytes_behind(tail, padding.start + taken))
+            out.extend_from_slice(bytes_behind(tail, padding.start + new.saturating_sub(old)))
         }
         None => out.extend_from_slice(tail),
     }
