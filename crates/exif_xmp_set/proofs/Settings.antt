@@ -1,6 +1,6 @@
 -- What holds of packets with another text.
-use Rattle.std.proofs.Common.{◌≡◌, ℕ, ◌+◌, ◌-◌, ◌≤◌, Bool, true, false, cond, nat_le, List, [], ◌∷◌, ◌++◌, length, take, drop, Option, Some, None, Result, Ok, Err, refl, ap, sym, ◌∙◌, arith, subst, length-append, length-drop}
-use Rattle.std.specs.Prelude.{if◌then◌else◌, ◌==◌, replicate, min}
+use Rattle.std.proofs.Common.{◌≡◌, ℕ, ◌+◌, ◌-◌, ◌≤◌, Bool, true, false, cond, List, [], ◌∷◌, ◌++◌, length, take, drop, Option, Some, None, Result, Ok, Err, refl, ap, sym, ◌∙◌, arith, subst, length-append, length-drop}
+use Rattle.std.specs.Prelude.{◌==◌, min}
 use Rattle.std.proofs.lemmas.List.{length-take, length-replicate}
 use Rattle.std.proofs.lemmas.Bool.Decides.{nat_tests}
 use Rattle.exif_xml.specs.declared.span.Span.{Span}
@@ -13,7 +13,7 @@ use Rattle.exif_xmp.specs.Properties.{PropertyView}
 use Rattle.exif_xmp.specs.Reading.{read}
 use Rattle.exif_xmp_set.specs.declared.fault.Reason.{Reason}
 use Rattle.exif_xmp_set.specs.declared.found.Found.{Found}
-use Rattle.exif_xmp_set.specs.Contents.{Content, contents, content_of, is_replaced, replaced, replaced_from}
+use Rattle.exif_xmp_set.specs.Contents.{Content, contents, is_replaced, replaced}
 use Rattle.exif_xmp_set.specs.Found.{settable}
 use Rattle.exif_xmp_set.specs.Padding.{fitted, fitted_by, last_gap, padding_of, room_in, room_of, trailing_gap}
 use Rattle.exif_xmp_set.specs.Promises.{HasRoom}
@@ -75,14 +75,15 @@ is_set packet namespace path text new e =
     let b = bound (settable a.value namespace path) (λ found. if_valid (invalid_character text) (with_text packet found text) >>= λ new. checked a.value new namespace path text) new a.gives in
     let c = bound (if_valid (invalid_character text) (with_text packet b.value text)) (λ new. checked a.value new namespace path text) new b.gives in
     let d = again (is_replaced false namespace path text a.value) c.value new (read c.value) c.gives in
+    let valid : with_text packet b.value text ≡ c.value = valid_is (invalid_character text) (with_text packet b.value text) c.value c.is in
     record {
       old = a.value;
       now = d.now;
       found = b.value;
       old_is = read_is (read packet) a.value a.is;
       found_is = b.is;
-      new_is = valid_is (invalid_character text) (with_text packet b.value text) c.value c.is ∙ d.same;
-      now_is = ap read (sym d.same) ∙ d.is;
+      new_is = valid ∙ d.same;
+      now_is = subst (λ (x : List ℕ). read x ≡ Ok d.now) d.same d.is;
       passes = d.passes;
     }
 

@@ -1,5 +1,5 @@
 -- Why a text is not set, and what a call answers where a definition computes one.
-use Rattle.std.specs.Prelude.{◌≡◌, List, Result, Ok, Err}
+use Rattle.std.specs.Prelude.{◌≡◌, Result, Ok, Err}
 use Rattle.exif_xmp.specs.declared.fault.ReadError as reader
 use Rattle.exif_xmp.specs.declared.fault.ReadError.TheVariants as reader_errors
 use Rattle.exif_xmp.specs.declared.fault.Refusal.{Refusal}

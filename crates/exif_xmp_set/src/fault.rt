@@ -6,8 +6,11 @@ ghost use Rattle.exif_xmp_set.specs.Refusals.{error_of_reader};
 
 use exif_xmp::{ReadError, Refusal};
 use std::alloc::{AllocError, AllocFailed};
+use std::fmt;
 
 /// Why a packet with another text is refused.
+///
+/// `{}` prints it as a text for people, without an offset.
 #[derive(Clone, Copy, Debug, PartialEq, Eq)]
 pub enum Reason {
     /// The packet is refused by [`exif_xmp::read`].
@@ -54,6 +57,23 @@ impl From<ReadError> for SetError {
         match read {
             ReadError::OutOfMemory => SetError::OutOfMemory,
             ReadError::Refused(refusal) => SetError::Refused(Reason::Packet(refusal)),
+        }
+    }
+}
+
+impl fmt::Display for Reason {
+    ghost use Rattle.std.specs.Prelude.{Some};
+    ghost use Rattle.exif_xmp_set.specs.FaultTexts.{reason_text};
+
+    ghost output = { λ reason. Some (reason_text reason) };
+
+    fn fmt<W: fmt::Write>(&self, f: &mut fmt::Formatter<W>) -> fmt::Result {
+        match self {
+            Reason::Packet(refusal) => refusal.fault.fmt(f),
+            Reason::NoProperty => f.write_str("no such property"),
+            Reason::Unread => f.write_str("the property is not a text"),
+            Reason::InvalidText(_) => f.write_str("the text is not valid in XML"),
+            Reason::NotReadBack => f.write_str("the text cannot be set in this packet"),
         }
     }
 }

@@ -14,6 +14,8 @@ pub mod laws;
 mod padding;
 mod read_back;
 mod set;
+#[cfg(test)]
+mod tests;
 
 pub use fault::{Reason, SetError};
 pub use set::set_text;
