@@ -66,7 +66,8 @@ unfolding with_zeros head_of box_header
 undated_long = refl
 
 -- a header that ends within its dates
-undated_short : with_zeros zeroed.Dates (0 ∷ 0 ∷ 0 ∷ 15 ∷ codes "mdhd" ++ (0 ∷ 0 ∷ 0 ∷ 0 ∷ 9 ∷ 9 ∷ 9 ∷ []))
+undated_short :
+    with_zeros zeroed.Dates (0 ∷ 0 ∷ 0 ∷ 15 ∷ codes "mdhd" ++ (0 ∷ 0 ∷ 0 ∷ 0 ∷ 9 ∷ 9 ∷ 9 ∷ []))
     ≡ 0 ∷ 0 ∷ 0 ∷ 15 ∷ codes "mdhd" ++ replicate 7 0
 unfolding with_zeros head_of box_header
 undated_short = refl

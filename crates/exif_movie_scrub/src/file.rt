@@ -41,7 +41,7 @@ fn zero_parts(request: Request, parts: &[Part], file: &mut [u8])
 /// judged, boxes of unknown types that stay, boxes too deep to be opened, and bytes that are no
 /// whole box. The answer is of the new file, which is read again.
 ///
-/// It takes memory for two lists of one [`Part`] for each box. Out of memory leaves the file as it
+/// It takes memory for three lists of one [`Part`] for each box. Out of memory leaves the file as it
 /// was, or with all zeros written.
 ///
 /// # Errors

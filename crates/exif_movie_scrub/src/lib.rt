@@ -9,6 +9,8 @@ mod file;
 pub mod laws;
 mod remaining;
 mod request;
+#[cfg(test)]
+mod tests;
 mod zeros;
 
 pub use fault::Fault;
