@@ -9,7 +9,7 @@ use Rattle.exif_movie_scrub.specs.declared.remaining.Reason.TheVariants as reaso
 -- a fault in words
 abbrev pub fault_text : Fault → List ℕ
 fault_text (fault.NotListed refusal) = refusal_text refusal
-fault_text fault.Unstable = codes "the video has other metadata once these are taken out"
+fault_text fault.Unstable = codes "the video has more metadata once these are taken out"
 
 -- a reason in words
 abbrev pub reason_text : Reason → List ℕ

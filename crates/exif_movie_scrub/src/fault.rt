@@ -22,7 +22,7 @@ impl fmt::Display for Fault {
     fn fmt<W: fmt::Write>(&self, f: &mut fmt::Formatter<W>) -> fmt::Result {
         match self {
             Fault::NotListed(refusal) => write!(f, "{refusal}"),
-            Fault::Unstable => f.write_str("the video has other metadata once these are taken out"),
+            Fault::Unstable => f.write_str("the video has more metadata once these are taken out"),
         }
     }
 }

@@ -33,16 +33,16 @@ fn zero_parts(request: Request, parts: &[Part], file: &mut [u8])
 /// Takes locations, or all metadata and the dates, out of a QuickTime or MP4 video, in place, and
 /// answers the parts that may still hold a location, in their order.
 ///
-/// A box with metadata becomes free space (`free`) of the same size, with zeros as its content. The
-/// two dates of a header become zeros. No other byte is written, and none moves, so the video plays
-/// as it did ([`crate::laws`]).
+/// A box with metadata becomes free space (`free`) of the same size, with zeros as its content.
+/// The two dates of a header become zeros. No other byte is written, and none moves, so the video
+/// plays as it did ([`crate::laws`]).
 ///
 /// Samples are not looked at. So tracks of texts or data are answered, as are texts that are not
 /// judged, boxes of unknown types that stay, boxes too deep to be opened, and bytes that are no
 /// whole box. The answer is of the new file, which is read again.
 ///
-/// It takes memory for three lists of one [`Part`] for each box. Out of memory leaves the file as it
-/// was, or with all zeros written.
+/// It takes memory for three lists of one [`Part`] for each box. Out of memory leaves the file as
+/// it was, or with all zeros written.
 ///
 /// # Errors
 ///

@@ -1,7 +1,7 @@
 //! Locations, or all metadata and the dates, taken out of a video in memory, in place.
 //!
-//! [`scrub`] writes zeros over them. No byte moves, no other byte changes, and it answers the parts
-//! that may still hold a location.
+//! [`scrub`] writes zeros over them. No byte moves, no other byte changes, and it answers the
+//! parts that may still hold a location.
 #![tactic(auto)]
 
 mod fault;

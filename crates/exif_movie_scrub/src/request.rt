@@ -9,9 +9,9 @@ use exif_movie::{Kind, Part, Subject};
 /// What is taken out of a video.
 #[derive(Clone, Copy, Debug, PartialEq, Eq)]
 pub enum Request {
-    /// What states a location, or may do so: texts and items of a location, items without a key
-    /// that is known, XMP packets, other XML documents, and what a camera recorded in a form of its
-    /// maker.
+    /// What states a location, or may do so: texts and items of a location, items whose key is
+    /// missing or too long, XMP packets, other XML documents, and what a camera recorded in a form
+    /// of its maker.
     Locations,
     /// All metadata, boxes of unknown types, what is in free space, and the dates of headers.
     Metadata,
