@@ -26,13 +26,13 @@ fn location_of_exiftool(rt: HostRuntime) -> Result<(), Fail> {
         assert!(rt; false);
         return Ok(());
     };
-    let end = KEYS.len() + LOCATION.len();
-    assert_eq!(rt; file[..KEYS.len()], *KEYS);
-    assert_eq!(rt; file[KEYS.len()..end], *FREE);
-    assert_eq!(rt; file[end..], *TITLE);
+    let mut wanted = Vec::from_slice(rt.alloc(), KEYS)?;
+    wanted.extend_from_slice(FREE)?;
+    wanted.extend_from_slice(TITLE)?;
+    assert_eq!(rt; file.as_slice(), wanted.as_slice());
     assert_eq!(rt; remaining.len(), 1);
     for one in remaining.iter() {
-        assert_eq!(rt; one.part.offset, end);
+        assert_eq!(rt; one.part.offset, KEYS.len() + FREE.len());
         assert_eq!(rt; one.reason, Reason::Text);
     }
     Ok(())
