@@ -45,7 +45,7 @@ abbrev pub VideoStays : List ℕ → List ℕ → Result (List Part) Refusal →
 VideoStays old new (Err refusal) = new ≡ old
 VideoStays old new (Ok parts) = All (KeepsPlayed old new) parts
 
--- whether a part states a location, or may do so
+-- whether a part is a text or an item of a location, or may hold one in a form that is not judged
 abbrev pub may_state_location : Kind → Bool
 may_state_location (kind.UserData subject.Location) = true
 may_state_location (kind.Item subject.Location) = true

@@ -18,9 +18,9 @@ pub fn scrubbing_twice_is_once()
         → scrubbed request new ≡ (new, Ok remaining) }
 {}
 
-/// No part of a scrubbed video states a location or may do so, in a text, an item, an XMP packet,
-/// another XML document, or what a camera recorded. Where all metadata are taken out, no part is
-/// metadata, and the dates of each header are zeros.
+/// No part of a scrubbed video is a text or an item of a location, an XMP packet, another XML
+/// document, or what a camera recorded in a form of its maker. Where all metadata are taken out,
+/// no part is metadata, and the dates of each header are zeros.
 pub fn none_is_found_again()
     ensures locations { (request : Request) (file new : List ℕ) (remaining : List Remaining)
         → scrubbed request file ≡ (new, Ok remaining)
