@@ -32,6 +32,21 @@ for file in whole.jpg whole.tif big.tif whole.webp whole.heic; do
     holds "show names $file" "files/$file:"
     holds "show prints the orientation of $file" "row 0 at right and column 0 at top"
 done
+# values of XMP and IPTC, behind the report
+if has exiftool; then
+    cp files/whole.jpg valued.jpg
+    exiftool -q -overwrite_original -XMP-xmp:Rating=4 -XMP-dc:subject=beach -XMP-dc:subject=sun "-XMP-dc:title-en=The harbour" -IPTC:Keywords=beach valued.jpg
+    gives "show reads them" 0 "$mexaldor" show valued.jpg
+    holds "a number" "xmp:Rating (XMP): 4"
+    holds "an item of an array" "dc:subject[2] (XMP): sun"
+    holds "a text with its language" "(XMP, en): The harbour"
+    holds "a dataset of IPTC" "Keywords (IPTC): beach"
+    "$mexaldor" show - <valued.jpg >out
+    holds "those of standard input, too" "xmp:Rating (XMP): 4"
+    LC_ALL=C sed 's/<rdf:RDF/<rdf RDF/' valued.jpg >broken.jpg
+    gives "a packet that can't be read is reported" 3 "$mexaldor" show broken.jpg
+    says "with its cause" "broken.jpg: XMP is not well formed, at byte"
+fi
 gives "show continues after faults" 3 "$mexaldor" show files/faulty.jpg
 gives "show refuses faults where it is strict" 1 "$mexaldor" show --strict files/faulty.jpg
 gives "show reads standard input" 0 sh -c '"$1" show - <files/whole.jpg' sh "$mexaldor"

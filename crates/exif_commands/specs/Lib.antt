@@ -3,6 +3,7 @@ pub mod Copies
 pub mod Objects
 pub mod Reads
 pub mod Rows
+pub mod Shown
 pub mod Tasks
 pub mod Thumbs
 pub mod Times

@@ -11,5 +11,6 @@ mod show;
 mod table;
 mod thumbnail;
 mod touch;
+mod values;
 
 pub use dispatch::run;

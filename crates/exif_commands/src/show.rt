@@ -1,11 +1,12 @@
 //! The report of a file, under a line with its name.
 
-ghost use Rattle.std.specs.Prelude.{◌≡◌, Err, IfErr, IfOk, IfSome, None, Ok};
+ghost use Rattle.std.specs.Prelude.{◌≡◌, ◌+◌, ◌-◌, ◌^◌, Err, IfErr, IfOk, IfSome, None, Ok, min};
 ghost use Rattle.exif_session.specs.declared.session.Stop.TheVariants.{Output};
 ghost use Rattle.exif_reader.specs.Found.{counted_in};
 ghost use Rattle.exif_commands.specs.Reads.{answer_read, outcome_reported};
 
 use crate::reads::{answer_of, read_opened};
+use crate::values::{file_values, held_values};
 use exif::{Counted, Error, Sink};
 use exif_base::send_all;
 use exif_decisions::{Escaped, Outcome};
@@ -13,6 +14,8 @@ use exif_formats::Picture;
 use exif_inputs::{Lines, open};
 use exif_reader::report::{found_of, write_all};
 use exif_session::{Reading, Session, Stop};
+use exif_show_text::{FaultLine, lines_of};
+use exif_values::{Fault, Values, read_fields};
 use std::alloc::Global;
 use std::io;
 
@@ -24,8 +27,43 @@ pub fn show_file<W: Sink, E: Sink>(
 ) -> Result<Outcome, Stop>
     ensures pending { session.new.pending ≡ session.old.pending }
 {
-    let shown = show(session.rt, reading, path, session.out)?;
-    end_report(session, path, shown)
+    let Shown { answer, faults } = show(session.rt, reading, path, session.out)?;
+    say_faults(session, path, faults.as_slice())?;
+    end_report(session, path, with_faults(answer, faults.len()))
+}
+
+// What was shown of a file: how many faults were skipped in its Exif data, or why it was refused,
+// and what was not read of its XMP and IPTC values.
+#[derive(Drop)]
+struct Shown {
+    answer: Result<u64, Error>,
+    faults: Vec<Fault>,
+}
+
+// Reports what was not read of XMP and IPTC values.
+fn say_faults<W: Sink, E: Sink>(
+    session: &mut Session<'_, '_, W, E>,
+    path: &str,
+    faults: &[Fault],
+) -> Result<(), Stop>
+    ensures { session.new.pending ≡ session.old.pending }
+{
+    for fault in faults {
+        session.say(path, &FaultLine(*fault))?;
+    }
+    Ok(())
+}
+
+// How many faults were skipped, with so many more.
+fn with_faults(answer: Result<u64, Error>, more: usize) -> Result<u64, Error>
+    ensures ok { IfOk answer.entry (λ count. IfOk result (λ all.
+        all ≡ min (count + more) (2 ^ 64 - 1))) }
+    ensures err { IfErr answer.entry (λ e. result ≡ Err e) }
+{
+    match answer {
+        Ok(count) => Ok(count.saturating_add(more as u64)),
+        Err(error) => Err(error),
+    }
 }
 
 // What is counted of a file by its report: how many faults were skipped, or why it was refused.
@@ -43,21 +81,34 @@ fn end_report<W: Sink, E: Sink>(
     }
 }
 
-// Writes the report of a file under a line with its name: how many faults were skipped, or why the
-// file was refused.
+// Writes the report of a file under a line with its name, and behind it a line for each XMP
+// property and each IPTC dataset.
 fn show<W: Sink>(
     rt: &HostRuntime,
     reading: Reading,
     path: &str,
     out: &mut W,
-) -> Result<Result<u64, Error>, Stop> {
+) -> Result<Shown, Stop> {
+    let alloc = rt.alloc();
     let name = Escaped(path);
-    let line = format!(in rt.alloc(); "{name}:\n")?;
+    let line = format!(in alloc; "{name}:\n")?;
     send_all(out, line.as_bytes()).map_err(Stop::Output)?;
-    let read = read_opened(rt.alloc(), reading.options(), open(rt, path));
-    let mut lines = Counted::new(Lines::new(rt.alloc(), out, reading.full));
-    let result = report_picture(rt.alloc(), read, &mut lines);
-    unless_failed(lines.into_inner().failed(), result)
+    let input = open(rt, path);
+    let held = held_values(alloc, &input)?;
+    let read = read_opened(alloc, reading.options(), input);
+    let mut values = match held {
+        Some(values) => values,
+        None => file_values(rt, path, &read)?,
+    };
+    let mut lines = Counted::new(Lines::new(alloc, out, reading.full));
+    let result = report_picture(alloc, read, &mut values, &mut lines);
+    let text = lines_of(alloc, &values)?;
+    let _ = send_all(&mut lines, text.as_bytes());
+    let answer = unless_failed(lines.into_inner().failed(), result)?;
+    Ok(Shown {
+        answer,
+        faults: values.faults,
+    })
 }
 
 // What was answered of a file, unless the output took no more.
@@ -75,10 +126,11 @@ fn unless_failed(
 }
 
 // The report of a picture of which this was read: how many faults were skipped. Of a picture that
-// is refused, nothing is written.
+// is refused, nothing is written. The values of its fields are added to others.
 fn report_picture<W: Sink>(
     alloc: Global,
     read: Result<Picture, Error>,
+    values: &mut Values,
     out: &mut W,
 ) -> Result<u64, Error>
     ensures count { IfOk result (λ count.
@@ -87,6 +139,7 @@ fn report_picture<W: Sink>(
     ensures kept { IfErr (counted_in (answer_read read.entry)) (λ e. out.new ≡ out.old) }
 {
     let (exif, faults) = found_of(alloc, answer_of(read))?;
+    read_fields(alloc, &exif, values)?;
     write_all(alloc, &exif, faults.as_slice(), out)?;
     Ok(faults.len() as u64)
 }

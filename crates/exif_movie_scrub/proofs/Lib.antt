@@ -1,0 +1,4 @@
+pub mod ZeroSteps
+pub mod PartSteps
+pub mod Twice
+pub mod Kept

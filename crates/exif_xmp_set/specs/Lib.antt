@@ -1,0 +1,10 @@
+pub mod Contents
+pub mod Contexts
+pub mod Escaping
+pub mod Examples
+pub mod FaultTexts
+pub mod Found
+pub mod Padding
+pub mod Promises
+pub mod Refusals
+pub mod Setting
