@@ -142,7 +142,7 @@ GPS = [
     (4, RATIONAL, [(151, 1), (12, 1), (40, 1)]),
 ]
 
-XMP = segment(0xE1, b"http://ns.adobe.com/xap/1.0/\0<x:xmpmeta/>")
+XMP = segment(0xE1, b"http://ns.adobe.com/xap/1.0/\0<x:xmpmeta xmlns:x='adobe:ns:meta/'/>")
 COMMENT = segment(0xFE, b"a comment")
 
 
@@ -153,7 +153,7 @@ def main(folder):
         "whole.tif": whole,
         "big.tif": big,
         "whole.jpg": jpeg(whole, XMP + COMMENT, b"behind the end"),
-        "whole.webp": webp(whole, chunk(b"XMP ", b"<x:xmpmeta/>")),
+        "whole.webp": webp(whole, chunk(b"XMP ", b"<x:xmpmeta xmlns:x='adobe:ns:meta/'/>")),
         "whole.heic": heif(big),
         "plain.jpg": jpeg(),
         "plain.webp": webp(),
