@@ -9,7 +9,7 @@ use Rattle.exif_json.specs.Answers.{IsJsonOf}
 use Rattle.exif_edit_base.specs.Causes.{Cause}
 use Rattle.exif_change.specs.Changed.{Change}
 use Rattle.exif_change.specs.Refusals.{Reason}
-use Rattle.exif_change.specs.Setting.{set_here}
+use Rattle.exif_setting.specs.Setting.{set_here}
 use Rattle.exif_c.specs.Buffers.{Gives, GivesNothing}
 use Rattle.exif_c.specs.Statuses.{cause_status, error_status, number_of, undone_status, why_status}
 use Rattle.exif_c.specs.declared.status.Status.{Status}

@@ -5,17 +5,17 @@ ghost use Rattle.exif_assign.specs.Assigning.{assigned_in, parts_of};
 ghost use Rattle.exif_edit.specs.declared.edits.Edit.TheVariants.{EraseGps};
 ghost use Rattle.exif_edit.specs.InFiles.{edited_file};
 ghost use Rattle.exif_change.specs.Changed.{change_of};
-ghost use Rattle.exif_change.specs.Setting.{set_here};
+ghost use Rattle.exif_setting.specs.Setting.{set_here};
 ghost use Rattle.exif_change.specs.declared.scrubbing.Removed.TheVariants.{Metadata};
-ghost use Rattle.exif_pictures.specs.Pictures.{picture_scrubbed};
+ghost use Rattle.exif_change.specs.Pictures.{picture_scrubbed};
 ghost use Rattle.exif_c.specs.Calls.{Ends, EndsBy, Puts, SetsBy, entry_limit};
 ghost use Rattle.exif_c.specs.Statuses.{undone_status};
 
 use crate::buffer::{Answer, given, nothing};
 use crate::status::{Status, edit_status, refusal_status};
-use exif_change::{Assignment, Changed, ENTRY_LIMIT, Removed, set_here};
+use exif_change::{Changed, ENTRY_LIMIT, Removed, scrub};
 use exif_edit::{Edit, apply_in_file};
-use exif_pictures::scrub;
+use exif_setting::{Assignment, set_here};
 use std::alloc::Global;
 
 /// Erases the GPS data in the Exif data of a file, in the caller's buffer: its length stays. After

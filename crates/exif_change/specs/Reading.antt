@@ -1,7 +1,9 @@
 -- What is read of a file before it is changed: all fields, whatever faults there are.
-use Rattle.std.specs.Prelude.{ℕ, true, List, Option, Some, Result, Ok, Err}
+use Rattle.std.specs.Prelude.{ℕ, true, List, [], Option, Some, None, Result, Ok, Err}
+use Rattle.std.specs.Borrow.{Bor}
 use Rattle.exif_base.specs.Orders.{order_named}
 use Rattle.exif_base.specs.declared.endian.Order.{Order}
+use Rattle.exif_text.specs.declared.ifd.In.{In}
 use Rattle.exif_types.specs.Contents.{ExifContents}
 use Rattle.exif_types.specs.Failures.{Failure}
 use Rattle.exif_types.specs.declared.error.Error.TheVariants as error
@@ -16,6 +18,10 @@ use Rattle.exif_containers.specs.Container.{container_answer}
 -- how many entries of a file are read at most
 abbrev pub entry_limit : Option ℕ
 entry_limit = Some 1000000
+
+-- the primary image
+abbrev pub primary : In
+primary = record { 0 = 0 }
 
 -- the data, their order and their fields
 pub record Contents : Type 0 where
@@ -58,3 +64,8 @@ data_contents bytes = do
 -- what is read of a file
 abbrev pub file_contents : List ℕ → Result Contents Refusal
 file_contents file = container_answer file >>= data_contents
+
+-- the fields that were read, if there are Exif data
+abbrev pub fields_read : Option (Bor ExifContents) → List Field
+fields_read (Some exif) = exif.now.fields
+fields_read None = []

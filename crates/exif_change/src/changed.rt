@@ -20,8 +20,8 @@ pub struct Changed {
 }
 
 impl Changed {
-    // A file of which nothing was left undone.
-    pub(crate) fn whole(alloc: Global, file: Vec<u8>) -> Changed
+    /// A file of which nothing was left undone.
+    pub fn whole(alloc: Global, file: Vec<u8>) -> Changed
         ensures { change_of result ≡ whole file.items }
     {
         Changed {

@@ -1,38 +1,30 @@
-//! What the program changes of a file, in memory: metadata taken out, values set, dates shifted,
-//! the thumbnail. Each call answers the whole new file and what was left undone in it, or a refusal
-//! by its cause.
+//! What a change makes of a picture, and metadata taken out of pictures of every format, in memory.
+//!
+//! Each call answers the whole new file and what was left undone in it ([`Changed`]), or a refusal
+//! by its cause ([`Refusal`]). [`scrub`] takes metadata out. How files are read, and written again,
+//! serves those that set values, too. Raw files are not changed.
 #![tactic(auto)]
 
 mod changed;
-mod dates;
-mod fields;
+pub mod codestream;
 mod found;
-mod growing;
-mod in_place;
+pub mod jxl;
 pub mod laws;
 mod notes;
+mod pictures;
+pub mod png;
 mod profile;
 mod reading;
 mod refusal;
 mod rewriting;
+mod rotation;
 mod scrubbing;
-mod second;
-pub mod set_laws;
-mod setting;
-mod thumbnails;
 
 pub use changed::{Changed, Residual};
-pub use dates::{Dates, shift};
-pub use exif_assign::Assignment;
-pub use exif_datetime::{ClockShift, Unmoved};
 pub use exif_privacy::Unread;
-pub use fields::set_fields;
-pub use found::{belongs, with_found};
-pub use growing::new_data;
-pub use in_place::Sets;
-pub use notes::{Color, Note, scrub_notes};
+pub use notes::{Color, Note};
+pub use pictures::{cut_off, no_codestream, raw_refused, scrub, scrub_notes, scrub_with_color};
 pub use reading::{ENTRY_LIMIT, read};
 pub use refusal::Refusal;
-pub use scrubbing::{Removed, kept, parts_unlocated, scrub, scrub_with_color};
-pub use setting::{assigned, set, set_here};
-pub use thumbnails::thumbnail;
+pub use rewriting::rewritten;
+pub use scrubbing::Removed;

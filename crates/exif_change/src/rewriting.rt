@@ -43,7 +43,7 @@ fn rewritten_webp(
 }
 
 /// The JPEG or WebP file with other Exif data in place of what is taken out.
-pub(crate) fn rewritten(
+pub fn rewritten(
     alloc: Global,
     format: Format,
     file: &[u8],

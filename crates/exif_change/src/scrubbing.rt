@@ -61,8 +61,8 @@ pub fn scrub_with_color(alloc: Global, file: Vec<u8>, removed: Removed) -> Resul
     }
 }
 
-// A change that left the colour profile too.
-fn with_color(changed: Changed) -> Result<Changed, Refusal>
+/// A change that left the colour profile too.
+pub fn with_color(changed: Changed) -> Result<Changed, Refusal>
     ensures { Answers change_of result (with_color (Ok (change_of changed))) }
 {
     let Changed { file, mut left } = changed;

@@ -10,7 +10,7 @@ use Rattle.exif_datetime.specs.Shift.{moved_value, opposite}
 use Rattle.exif_datetime.specs.declared.shift.ClockShift.{ClockShift}
 use Rattle.exif_datetime.specs.declared.shift.Unmoved.{Unmoved}
 use Rattle.exif_edit_base.specs.Finding.{replaced, with_value}
-use Rattle.exif_change.specs.Setting.{primary}
+use Rattle.exif_change.specs.Reading.{primary}
 use Rattle.exif_change_laws.proofs.SetFields.{AreApart, last_kept, last_same, last_value, replaced_turned, twice_replaced}
 
 -- ---- one date

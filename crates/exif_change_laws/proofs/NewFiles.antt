@@ -43,14 +43,14 @@ use Rattle.exif_assign.specs.declared.assignment.Assignment.{Assignment}
 use Rattle.exif_assign.specs.declared.spelled.ValueError.{ValueError}
 use Rattle.exif_assign.specs.declared.spelled.ValueError.TheVariants as value_error
 use Rattle.exif_change.specs.Changed.{Change, whole}
-use Rattle.exif_change.specs.Growing.{created_for, created_in, grown_by, grown_file, longest, naming, new_data, put, too_long_for, unless_fault}
-use Rattle.exif_change.specs.InPlace.{field_set, fit_by, fitting_set, setting}
-use Rattle.exif_change.specs.Reading.{data_contents, entry_limit}
+use Rattle.exif_setting.specs.Growing.{created_for, created_in, grown_by, grown_file, longest, naming, new_data, put, too_long_for, unless_fault}
+use Rattle.exif_setting.specs.InPlace.{field_set, fit_by, fitting_set, setting}
+use Rattle.exif_change.specs.Reading.{data_contents, entry_limit, primary}
 use Rattle.exif_change.specs.Refusals.{Reason, as_edited, as_read, no_field, not_of_its_type, out_of_range, reading, unknown_format, ◌>>=◌}
 use Rattle.exif_change.specs.Rewriting.{rewritten}
-use Rattle.exif_change.specs.Setting.{assigned_behind, assigned_fields, field_for, field_or, field_typed, fields_or_none, is_assigned, primary, set_as, set_file, set_rest, with_assigned, with_field}
+use Rattle.exif_setting.specs.Setting.{assigned_behind, assigned_fields, field_for, field_or, field_typed, fields_or_none, is_assigned, set_as, set_file, set_rest, with_assigned, with_field}
 use Rattle.exif_change.proofs.Scrubbed.{jpeg_answers, webp_answers}
-use Rattle.exif_change.proofs.SetKept.{bound}
+use Rattle.exif_setting.proofs.SetKept.{bound}
 use Rattle.exif_change_laws.proofs.MadeValues.{made_value, new_written}
 use Rattle.exif_change_laws.proofs.ScrubbedFiles.{webp_front}
 use Rattle.exif_change_laws.proofs.SetAssigned.{distinct_fields}

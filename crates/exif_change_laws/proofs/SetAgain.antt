@@ -32,12 +32,12 @@ use Rattle.exif_assign.specs.declared.assignment.Assignment.{Assignment}
 use Rattle.exif_assign.specs.declared.spelled.ValueError.{ValueError}
 use Rattle.exif_assign.specs.declared.spelled.ValueError.TheVariants as value_error
 use Rattle.exif_change.specs.Changed.{Change, whole}
-use Rattle.exif_change.specs.Reading.{Contents, file_contents, fields_in}
+use Rattle.exif_change.specs.Reading.{Contents, file_contents, fields_in, primary}
 use Rattle.exif_change.specs.Refusals.{Reason, no_field, not_of_its_type, out_of_range, unknown_format, ◌>>=◌}
-use Rattle.exif_change.specs.SetLaws.{KeepsOthers}
-use Rattle.exif_change.specs.Setting.{assigned_behind, assigned_fields, field_for, field_or, field_typed, fields_or_none, known_type, primary, set_as, set_file, type_for}
-use Rattle.exif_change.proofs.SetInPlace.{wider}
-use Rattle.exif_change.proofs.SetKept.{bound}
+use Rattle.exif_setting.specs.SetLaws.{KeepsOthers}
+use Rattle.exif_setting.specs.Setting.{assigned_behind, assigned_fields, field_for, field_or, field_typed, fields_or_none, known_type, set_as, set_file, type_for}
+use Rattle.exif_setting.proofs.SetInPlace.{wider}
+use Rattle.exif_setting.proofs.SetKept.{bound}
 use Rattle.exif_change_laws.specs.Assigned.{AreAssigned, GivesAssigned, GivesAssignedAgain, HasValueOf, IsReadAs}
 use Rattle.exif_change_laws.proofs.SetAssigned.{WasRead, assigned_all, traced_fields, was_read}
 use Rattle.exif_change_laws.proofs.ShiftedFiles.{contents_are}

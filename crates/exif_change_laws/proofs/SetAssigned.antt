@@ -32,11 +32,11 @@ use Rattle.exif_assign.specs.declared.assignment.Assignment.{Assignment}
 use Rattle.exif_assign.specs.declared.spelled.ValueError.{ValueError}
 use Rattle.exif_assign.specs.declared.spelled.ValueError.TheVariants as value_error
 use Rattle.exif_change.specs.Changed.{Change, whole}
-use Rattle.exif_change.specs.InPlace.{fitting_set}
-use Rattle.exif_change.specs.Reading.{Contents, data_contents, entry_limit, fields_in, file_contents, without_fault}
+use Rattle.exif_setting.specs.InPlace.{fitting_set}
+use Rattle.exif_change.specs.Reading.{Contents, data_contents, entry_limit, fields_in, file_contents, without_fault, primary}
 use Rattle.exif_change.specs.Refusals.{Reason, as_edited, no_field, not_of_its_type, out_of_range, unknown_format, ◌>>=◌}
-use Rattle.exif_change.specs.Setting.{assigned_behind, assigned_fields, field_for, field_or, field_typed, fields_or_none, is_assigned, occurs_again, primary, set_as, set_file, set_rest, type_for, with_assigned, with_field}
-use Rattle.exif_change.proofs.SetKept.{IsKnown, bound, edited_ok}
+use Rattle.exif_setting.specs.Setting.{assigned_behind, assigned_fields, field_for, field_or, field_typed, fields_or_none, is_assigned, occurs_again, set_as, set_file, set_rest, type_for, with_assigned, with_field}
+use Rattle.exif_setting.proofs.SetKept.{IsKnown, bound, edited_ok}
 use Rattle.exif_change_laws.specs.Assigned.{GivesAssigned}
 use Rattle.exif_change_laws.proofs.ScrubbedFiles.{jpeg_front, webp_front}
 use Rattle.exif_change_laws.proofs.SetNames.{AreDistinct, IsOnce, name_apart, or_both, or_left, or_right}

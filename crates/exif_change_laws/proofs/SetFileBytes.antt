@@ -15,7 +15,7 @@ use Rattle.exif_edit.specs.Edits.{edited, reads_past}
 use Rattle.exif_edit.specs.Setting.{set_answer}
 use Rattle.exif_edit.specs.InFiles.{IsEditedIn, file_patches}
 use Rattle.exif_edit.proofs.FilesSound.{file_sound}
-use Rattle.exif_change.specs.InPlace.{field_set, setting}
+use Rattle.exif_setting.specs.InPlace.{field_set, setting}
 use Rattle.exif_change.specs.Reading.{entry_limit}
 use Rattle.exif_change_laws.specs.Assigned.{KeepsEntry}
 use Rattle.exif_change_laws.specs.Positions.{extents}

@@ -23,7 +23,7 @@ use Rattle.exif_edit.specs.Spreading.{spread}
 use Rattle.exif_edit.proofs.EditsSound.{edit_fits, edit_stands_in, unlimited}
 use Rattle.exif_edit.proofs.FilesSound.{WasPlaced, was_placed}
 use Rattle.exif_edit.proofs.Spreads.{spread_front}
-use Rattle.exif_change.specs.InPlace.{field_set, fit_by, fitting_set, needs_space, setting}
+use Rattle.exif_setting.specs.InPlace.{field_set, fit_by, fitting_set, needs_space, setting}
 use Rattle.exif_change.specs.Reading.{entry_limit}
 
 -- ---- the fields of a list that are set in place, and those that are left over

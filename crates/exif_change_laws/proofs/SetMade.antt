@@ -11,9 +11,10 @@ use Rattle.exif_grow.specs.FieldPromises.{is_set, same_name}
 use Rattle.exif_assign.specs.Assigning.{parts_of}
 use Rattle.exif_assign.specs.declared.assignment.Assignment.{Assignment}
 use Rattle.exif_change.specs.Refusals.{Reason, ◌>>=◌}
-use Rattle.exif_change.specs.Setting.{assigned_behind, field_for, is_assigned, occurs_again, primary, type_for, with_assigned, with_field}
-use Rattle.exif_change.proofs.SetKept.{bound}
-use Rattle.exif_change.proofs.SetWhole.{is_set_append}
+use Rattle.exif_change.specs.Reading.{primary}
+use Rattle.exif_setting.specs.Setting.{assigned_behind, field_for, is_assigned, occurs_again, type_for, with_assigned, with_field}
+use Rattle.exif_setting.proofs.SetKept.{bound}
+use Rattle.exif_setting.proofs.SetWhole.{is_set_append}
 use Rattle.exif_change_laws.proofs.SetAssigned.{IsFor, is_for}
 
 -- ---- names

@@ -12,11 +12,11 @@ use Rattle.exif_types.specs.declared.tag.Tag.{Tag}
 use Rattle.exif_types.specs.declared.value.Value.{Value}
 use Rattle.exif_edit.proofs.SetFound.{from_behind, passing_none}
 use Rattle.exif_edit_base.specs.Finding.{replaced, with_value}
-use Rattle.exif_edit_base.specs.Rereading.{without_entry_offsets}
+use Rattle.exif_edit_base.specs.Rereading.{without_entry_offsets, field_at_entry}
 use Rattle.exif_grow.specs.FieldPromises.{HasLastValue, IsThere, bare, is_set, same_name, unset}
 use Rattle.exif_grow.proofs.SetLists.{all_but, all_failing, all_from_without, all_without, any_failing, any_kept, any_without, bare_at, set_as_named}
-use Rattle.exif_edit_base.specs.Rereading.{field_at_entry}
-use Rattle.exif_change.specs.Setting.{occurs_again, primary}
+use Rattle.exif_change.specs.Reading.{primary}
+use Rattle.exif_setting.specs.Setting.{occurs_again}
 use Rattle.exif_change_laws.specs.Assigned.{HasValueOf, IsReadAs}
 
 -- ---- fields of different names

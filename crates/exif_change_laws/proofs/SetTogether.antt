@@ -32,13 +32,13 @@ use Rattle.exif_grow.specs.FieldPromises.{bare}
 use Rattle.exif_grow.specs.Fields.{field_grown, fields_grown}
 use Rattle.exif_grow.proofs.FieldSound.{are_set, was_set}
 use Rattle.exif_change.specs.Changed.{whole}
-use Rattle.exif_change.specs.InPlace.{field_set, fitting_set, setting}
+use Rattle.exif_setting.specs.InPlace.{field_set, fitting_set, setting}
 use Rattle.exif_change.specs.Reading.{entry_limit}
-use Rattle.exif_change.specs.SetLaws.{GivesOthers, KeepsOthers}
-use Rattle.exif_change.specs.Setting.{set_rest}
-use Rattle.exif_change.proofs.SetInPlace.{all_kept, one_kept}
-use Rattle.exif_change.proofs.SetKept.{Found, IsKnown, data_found, tiff_same}
-use Rattle.exif_change.proofs.SetWhole.{both_kept, grown_kept, in_front, left_among}
+use Rattle.exif_setting.specs.SetLaws.{GivesOthers, KeepsOthers}
+use Rattle.exif_setting.specs.Setting.{set_rest}
+use Rattle.exif_setting.proofs.SetInPlace.{all_kept, one_kept}
+use Rattle.exif_setting.proofs.SetKept.{Found, IsKnown, data_found, tiff_same}
+use Rattle.exif_setting.proofs.SetWhole.{both_kept, grown_kept, in_front, left_among}
 use Rattle.exif_change_laws.specs.Assigned.{AreAssigned, GivesAssigned, IsReadAs}
 use Rattle.exif_change_laws.proofs.SetFormats.{fitted, format_kept}
 use Rattle.exif_change_laws.proofs.SetNames.{AreDistinct, IsOnce, all_by, all_turned, distinct_turned, last_values, once_kept, once_read, read_kept}

@@ -43,11 +43,10 @@ use Rattle.exif_datetime.specs.Shift.{moved_value, opposite}
 use Rattle.exif_datetime.specs.declared.shift.ClockShift.{ClockShift}
 use Rattle.exif_datetime.specs.declared.shift.Unmoved.{Unmoved}
 use Rattle.exif_change.specs.Changed.{Change, unmoved, unset, whole}
-use Rattle.exif_change.specs.InPlace.{field_set}
-use Rattle.exif_change.specs.Reading.{entry_limit}
-use Rattle.exif_change.specs.Setting.{primary}
-use Rattle.exif_change.specs.Shifting.{date, date_moved, date_set, tag_moved, tags_moved, tags_of}
-use Rattle.exif_change.specs.declared.dates.Dates.{Dates}
+use Rattle.exif_setting.specs.InPlace.{field_set}
+use Rattle.exif_change.specs.Reading.{entry_limit, primary}
+use Rattle.exif_setting.specs.Shifting.{date, date_moved, date_set, tag_moved, tags_moved, tags_of}
+use Rattle.exif_setting.specs.declared.dates.Dates.{Dates}
 use Rattle.exif_change_laws.specs.Positions.{KeepsPositions, Position, StaysPut, extents, position_of}
 use Rattle.exif_change_laws.proofs.DatesThemselves.{date_itself, ranges_bytes}
 use Rattle.exif_change_laws.proofs.JoinedFiles.{files_same}

@@ -37,13 +37,12 @@ use Rattle.exif_datetime.specs.declared.shift.ClockShift.{ClockShift}
 use Rattle.exif_datetime.specs.declared.shift.Unmoved.{Unmoved}
 use Rattle.exif_datetime.specs.declared.shift.Unmoved.TheVariants.{Blank, Invalid}
 use Rattle.exif_change.specs.Changed.{Change, Undone, unmoved, unset, whole}
-use Rattle.exif_change.specs.InPlace.{field_set}
-use Rattle.exif_change.specs.Reading.{Contents, data_contents, entry_limit, fields_in, without_fault}
+use Rattle.exif_setting.specs.InPlace.{field_set}
+use Rattle.exif_change.specs.Reading.{Contents, data_contents, entry_limit, fields_in, without_fault, primary}
 use Rattle.exif_change.specs.Refusals.{Reason, as_read, no_date, reading as refused, ◌>>=◌}
-use Rattle.exif_change.specs.Setting.{primary}
-use Rattle.exif_change.specs.Shifting.{date, date_moved, date_set, dates_moved, has_dates, shifted, tag_moved, tags_moved, tags_of}
-use Rattle.exif_change.specs.declared.dates.Dates.{Dates}
-use Rattle.exif_change.specs.declared.dates.Dates.TheVariants as dates
+use Rattle.exif_setting.specs.Shifting.{date, date_moved, date_set, dates_moved, has_dates, shifted, tag_moved, tags_moved, tags_of}
+use Rattle.exif_setting.specs.declared.dates.Dates.{Dates}
+use Rattle.exif_setting.specs.declared.dates.Dates.TheVariants as dates
 use Rattle.exif_change_laws.specs.Positions.{fields_of_file}
 use Rattle.exif_change_laws.specs.Shifted.{all_read}
 use Rattle.exif_change_laws.proofs.MovedFields.{AllApart, AllMove, Moves, ValuesBack, dates_set, fields_back, if_moved, moved_option, set_or}

@@ -16,7 +16,8 @@ use Rattle.exif_types.specs.declared.value.Value.TheVariants.{Byte, Ascii, Short
 use Rattle.exif_assign.specs.Assigning.{or_else}
 use Rattle.exif_assign.specs.Rules.{type_of_new}
 use Rattle.exif_assign.specs.declared.spelled.ValueError.TheVariants.{OutOfRange}
-use Rattle.exif_change.specs.Setting.{field_or, field_typed, primary}
+use Rattle.exif_change.specs.Reading.{primary}
+use Rattle.exif_setting.specs.Setting.{field_or, field_typed}
 use Rattle.exif_change_laws.specs.Shown.{Fits, HasDecimals, HasField, IsShownAs, IsSingle, IsSpelled, Sets, are_decimals, as_decimals, one}
 use Rattle.exif_change_laws.proofs.ShownFits.{decimals_fit}
 use Rattle.exif_change_laws.proofs.ShownKinds.{decimals_shown, plainly_shown}

@@ -17,10 +17,10 @@ use Rattle.exif_edit.specs.Setting.{set_answer}
 use Rattle.exif_grow.specs.FieldPromises.{IsThere, bare, same_name}
 use Rattle.exif_assign.specs.declared.assignment.Assignment.{Assignment}
 use Rattle.exif_change.specs.Changed.{whole}
-use Rattle.exif_change.specs.InPlace.{field_set}
+use Rattle.exif_setting.specs.InPlace.{field_set}
 use Rattle.exif_change.specs.Reading.{Contents, file_contents}
-use Rattle.exif_change.specs.SetLaws.{KeepsOthers}
-use Rattle.exif_change.specs.Setting.{assigned_fields, set_file}
+use Rattle.exif_setting.specs.SetLaws.{KeepsOthers}
+use Rattle.exif_setting.specs.Setting.{assigned_fields, set_file}
 use Rattle.exif_change_laws.specs.Positions.{extents}
 
 -- a field has this value, if it has this name

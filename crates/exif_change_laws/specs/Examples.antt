@@ -15,8 +15,8 @@ use Rattle.exif_datetime.specs.Shift.{opposite}
 use Rattle.exif_datetime.specs.declared.shift.ClockShift.{ClockShift}
 use Rattle.exif_change.specs.Changed.{whole}
 use Rattle.exif_change.specs.Reading.{data_contents}
-use Rattle.exif_change.specs.Shifting.{shifted}
-use Rattle.exif_change.specs.declared.dates.Dates.TheVariants as dates
+use Rattle.exif_setting.specs.Shifting.{shifted}
+use Rattle.exif_setting.specs.declared.dates.Dates.TheVariants as dates
 use Rattle.exif_change_laws.specs.Positions.{KeepsPositions}
 
 -- a TIFF file with two dates: the entry of the one in the first directory, of the other in the Exif

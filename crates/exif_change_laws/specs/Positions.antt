@@ -16,10 +16,9 @@ use Rattle.exif_edit_base.specs.declared.patch.Span.{Span}
 use Rattle.exif_datetime.specs.Shift.{opposite}
 use Rattle.exif_datetime.specs.declared.shift.ClockShift.{ClockShift}
 use Rattle.exif_change.specs.Changed.{Change, whole}
-use Rattle.exif_change.specs.Reading.{file_contents}
-use Rattle.exif_change.specs.Setting.{primary}
-use Rattle.exif_change.specs.Shifting.{tag_moved, tags_of}
-use Rattle.exif_change.specs.declared.dates.Dates.{Dates}
+use Rattle.exif_change.specs.Reading.{file_contents, primary}
+use Rattle.exif_setting.specs.Shifting.{tag_moved, tags_of}
+use Rattle.exif_setting.specs.declared.dates.Dates.{Dates}
 
 -- where a date is: the extents of the Exif data, their byte order, and in the data the entry of the
 -- date and the space of its value

@@ -15,8 +15,7 @@ use Rattle.exif_inventory.specs.declared.part.Part.{Part}
 use Rattle.exif_change.specs.Changed.{Change}
 use Rattle.exif_change.specs.Changes.{scrubbed}
 use Rattle.exif_change.specs.Found.{IsAnswered}
-use Rattle.exif_change.specs.Reading.{Contents}
-use Rattle.exif_change.specs.Setting.{primary}
+use Rattle.exif_change.specs.Reading.{Contents, primary}
 use Rattle.exif_change.specs.declared.scrubbing.Removed.{Removed}
 
 -- no field is read: there are no Exif data, or empty ones

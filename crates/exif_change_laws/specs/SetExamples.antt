@@ -15,8 +15,8 @@ use Rattle.exif_parts.specs.Jpeg.{filtered}
 use Rattle.exif_assign.specs.Values.{value_in}
 use Rattle.exif_assign.specs.declared.assignment.Assignment.{Assignment}
 use Rattle.exif_change.specs.Changed.{whole}
-use Rattle.exif_change.specs.Growing.{grown_file}
-use Rattle.exif_change.specs.Setting.{assigned_fields, set_file}
+use Rattle.exif_setting.specs.Growing.{grown_file}
+use Rattle.exif_setting.specs.Setting.{assigned_fields, set_file}
 use Rattle.exif_change_laws.specs.Assigned.{data_of_new, written}
 use Rattle.exif_change_laws.specs.Scrubbed.{orientation}
 

@@ -21,7 +21,8 @@ use Rattle.exif_assign.specs.Fitting.{fits}
 use Rattle.exif_assign.specs.Rules.{form_of}
 use Rattle.exif_assign.specs.Texts.{fraction}
 use Rattle.exif_assign.specs.Values.{fitting, value_in}
-use Rattle.exif_change.specs.Setting.{field_for, primary}
+use Rattle.exif_change.specs.Reading.{primary}
+use Rattle.exif_setting.specs.Setting.{field_for}
 
 -- ---- texts that are read as values
 

@@ -13,7 +13,7 @@ use exif_layout::laws::{images_hold_what_was_pushed, images_read_back, pushing_k
 use exif_rewrite::laws::file_answers_what_was_put;
 use exif_tiff::laws::limits_cut_readings;
 
-/// Where values are set in a file as [`set`](exif_change::set) does it, the Exif data that are read
+/// Where values are set in a file as [`set`](exif_setting::set) does it, the Exif data that are read
 /// of the new file have a field of each assigned name, and each such field has its value; all other
 /// fields are as they were, in their order, and so are the faults.
 pub fn assigned_values_are_read()

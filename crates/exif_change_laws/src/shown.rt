@@ -47,7 +47,7 @@ pub fn single_fractions_are_parsed_back()
         → IsExposure tag r new → AreAlike tag (one new) (one r) }
 {}
 
-/// Where what is shown of a field is assigned to its tag, [`set`](exif_change::set) sets the value
+/// Where what is shown of a field is assigned to its tag, [`set`](exif_setting::set) sets the value
 /// that the field has, and of decimals and of `1/n` the fractions that they are.
 pub fn shown_values_are_set_again()
     ensures plain { (h : Held)

@@ -13,8 +13,7 @@ use Rattle.exif_edit_base.specs.Causes.{Cause, ◌>>=◌}
 use Rattle.exif_edit_base.specs.EntryLimit.{within_limit}
 use Rattle.exif_edit.specs.Removing.{field_answer}
 use Rattle.exif_grow.specs.Fields.{fields_grown}
-use Rattle.exif_change.specs.Reading.{entry_limit}
-use Rattle.exif_change.specs.Setting.{primary}
+use Rattle.exif_change.specs.Reading.{entry_limit, primary}
 
 -- the number that a picture with these fields tells by one of them
 abbrev pub number_told : List Field → Tag → Option ℕ

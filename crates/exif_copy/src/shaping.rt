@@ -2,7 +2,7 @@
 
 ghost use Rattle.std.specs.Prelude.{◌≡◌, IfOk};
 ghost use Rattle.exif_edit_base.specs.Causes.{Makes};
-ghost use Rattle.exif_change.specs.Setting.{fields_read};
+ghost use Rattle.exif_change.specs.Reading.{fields_read};
 ghost use Rattle.exif_copy.specs.Shaped.{fitted, number_told, orientation_for, size_for, upright_unless, with_shape, with_size, with_value};
 
 use exif::{Exif, Field, In, Tag, Value};

@@ -88,14 +88,14 @@ stays_by made old (Err cause) bytes fault h k = refl
 
 -- data whose reading under the limit is refused stay
 pub own_refused : (unread : Unread) (bytes : List ℕ) (fault : Fault)
-    → limited_reading 1_000_000 bytes ≡ Err (wrong_header fault)
+    → limited_reading entry_limit bytes ≡ Err (wrong_header fault)
     → own_erased unread bytes ≡ (bytes, NotChanged ∷ [])
 own_refused unread bytes fault h =
     stays_by (fields_erased unread (gps_erased bytes)) (bytes, NotChanged ∷ [])
     (within_limit entry_limit bytes) bytes fault h (own_stay unread bytes)
 
 pub data_refused : (unread : Unread) (bytes : List ℕ) (fault : Fault)
-    → limited_reading 1_000_000 bytes ≡ Err (wrong_header fault)
+    → limited_reading entry_limit bytes ≡ Err (wrong_header fault)
     → data_erased unread bytes ≡ (bytes, NotChanged ∷ [])
 data_refused unread bytes fault h =
     stays_by (thumbnail_erased unread (fields_erased unread (gps_erased bytes)))

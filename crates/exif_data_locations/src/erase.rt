@@ -181,7 +181,7 @@ pub fn erase_own(
     ensures erased { IfOk result (λ r. (bytes.new, r.0.items) ≡ own_erased unread bytes.old) }
     ensures read { IfOk result (λ r. MayBeRead bytes.new r.1) }
 {
-    match locate_within(alloc, bytes, ENTRY_LIMIT) {
+    match locate_within(alloc, bytes, Some(ENTRY_LIMIT)) {
         Ok(located) => erase_all(alloc, unread, bytes, located),
         Err(Error::Header(_)) => Ok((unchanged(alloc)?, None)),
         Err(_) => Err(AllocError),

@@ -55,7 +55,7 @@ pub fn erase_locations(
 ) -> Result<Vec<Reason>, AllocError>
     ensures { IfOk result (λ whys. (bytes.new, whys.items) ≡ data_erased unread bytes.old) }
 {
-    match locate_within(alloc, bytes, ENTRY_LIMIT) {
+    match locate_within(alloc, bytes, Some(ENTRY_LIMIT)) {
         Ok(located) => erase_with_thumbnail(alloc, unread, bytes, located),
         Err(Error::Header(_)) => Ok(unchanged(alloc)?),
         Err(_) => Err(AllocError),

@@ -1,18 +1,18 @@
 -- What is promised of one edit of data, whichever it is.
-use Rattle.std.proofs.Common.{◌≡◌, ℕ, Bool, true, false, List, length, All, Option, Ok, refl, subst, inl, inr}
+use Rattle.std.proofs.Common.{◌≡◌, ℕ, Bool, true, false, List, length, All, Option, Result, Ok, ap, refl, subst, inl, inr, ◌∙◌}
 use Rattle.exif_containers.specs.Container.{begins_tiff}
 use Rattle.exif_containers.specs.Replacing.{CanStandIn}
 use Rattle.exif_containers.specs.declared.container.Format.{Format}
 use Rattle.exif_containers.specs.declared.container.Format.TheVariants.{Tiff, Jpeg, Heif, WebP}
 use Rattle.exif_containers.proofs.Replacing.{is_heif}
-use Rattle.exif_edit_base.specs.Causes.{wrong_header}
+use Rattle.exif_edit_base.specs.Causes.{Cause, unless, wrong_header, ◌>>=◌}
 use Rattle.exif_edit_base.specs.Patches.{FitsIn, patched}
 use Rattle.exif_edit_base.specs.Readings.{Read, reading}
 use Rattle.exif_edit_base.specs.declared.patch.Patch.{Patch}
 use Rattle.exif_edit_base.proofs.CauseSteps.{passed}
 use Rattle.exif_tiff.specs.declared.fault.Fault.TheVariants.{TooManyEntries}
 use Rattle.exif_edit.specs.Clearing.{IsCleared}
-use Rattle.exif_edit.specs.Edits.{IsEdited, edit_patches, limited_edit, limited_patches, reads_past}
+use Rattle.exif_edit.specs.Edits.{IsEdited, edit_patches, edited, limited_edit, limited_patches, reads_past}
 use Rattle.exif_edit.specs.declared.edits.Edit.{Edit}
 use Rattle.exif_edit.specs.declared.edits.Edit.TheVariants.{Set, EraseGps, EraseField, EraseAll}
 use Rattle.exif_edit.proofs.ClearSound.{clear_fits, clear_sound, was_cleared}
@@ -63,6 +63,21 @@ limited_made limit edit old ps e =
         let p = passed (reads_past limit edit old) (wrong_header TooManyEntries)
         (λ a. edit_patches edit old) ps h in
         rw (p.0, p.1) refl
+
+-- carrying the patches of a limited edit out makes its data
+pub limited_carried : (limit : Option ℕ) (edit : Edit) (old : List ℕ)
+    (planned : Result (List Patch) Cause) → planned ≡ limited_patches limit edit old
+    → (planned >>= λ ps. Ok (patched ps old)) ≡ limited_edit limit edit old
+limited_carried limit edit old planned e =
+    ap (λ (r : Result (List Patch) Cause). r >>= λ ps. Ok (patched ps old)) e
+    ∙ by_limit (reads_past limit edit old)
+  where
+    by_limit : (b : Bool)
+        → ((unless b (wrong_header TooManyEntries) >>= λ a. edit_patches edit old)
+        >>= λ ps. Ok (patched ps old))
+        ≡ (unless b (wrong_header TooManyEntries) >>= λ a. edited edit old)
+    by_limit true = refl
+    by_limit false = refl
 
 -- ---- data with a good header begin as TIFF data do
 

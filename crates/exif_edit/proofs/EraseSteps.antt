@@ -5,15 +5,12 @@ use Rattle.exif_base.specs.Bytes.{Reading, spaced}
 use Rattle.exif_base.specs.Orders.{number_of, order_named}
 use Rattle.exif_base.specs.declared.endian.Order.{Order}
 use Rattle.exif_types.specs.declared.field.Field.{Field}
-use Rattle.exif_tiff.specs.declared.stop.Stop.{Stop}
-use Rattle.exif_tiff.specs.declared.stop.Stop.TheVariants as stop
-use Rattle.exif_edit_base.specs.Causes.{Becomes, Cause, Fails, ◌>>=◌}
+use Rattle.exif_edit_base.specs.Causes.{Cause, of_data, ◌>>=◌}
 use Rattle.exif_edit_base.specs.Patches.{patched, zeros_over}
 use Rattle.exif_edit_base.specs.Plans.{carried_out, planned}
 use Rattle.exif_edit_base.specs.declared.plan.Plan.{Plan}
 use Rattle.exif_edit_base.specs.GpsOffsets.{gps_offsets}
-use Rattle.exif_edit_base.specs.Readings.{Read, ReadsTo, reading}
-use Rattle.exif_edit_base.specs.declared.error.Error.{Error}
+use Rattle.exif_edit_base.specs.Readings.{Read, reading}
 use Rattle.exif_edit_base.specs.declared.patch.Patch.{Patch}
 use Rattle.exif_edit_base.specs.declared.patch.Span.{Span}
 use Rattle.exif_edit.specs.Erasing.{cleared, directory_spans, erase_answer, erase_patches, gps_spans, kept, without_gps, zeros_planned}
@@ -33,12 +30,11 @@ value_on span at' n i out new all h e f =
 
 -- ---- the whole
 
--- where reading stops, the erasing of GPS data fails with the error that the stop becomes
-pub erase_fault : (s : Stop) (bytes : List ℕ) (e : Error) → ReadsTo (Err s) (reading bytes)
-    → Becomes s e → Fails e (erase_patches bytes)
+-- where the data are refused, so is erasing GPS data of them
+pub erase_refused : (bytes : List ℕ) (c : Cause) → of_data (reading bytes) ≡ Err c
+    → erase_patches bytes ≡ Err c
 unfolding erase_patches
-erase_fault stop.OutOfMemory bytes e h b = rw b refl
-erase_fault (stop.Fault fault) bytes e h b = rw (b, h) refl
+erase_refused bytes c h = rw h refl
 
 erase_cleared : (bytes : List ℕ) (read : Read) → reading bytes ≡ Ok read
     → erase_patches bytes

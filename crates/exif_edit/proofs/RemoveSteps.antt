@@ -16,12 +16,9 @@ use Rattle.exif_tiff.specs.Trace.{directory_end, whole_entries}
 use Rattle.exif_tiff.specs.declared.fault.Fault.{Fault}
 use Rattle.exif_layout.specs.Encoding.{spelled}
 use Rattle.exif_layout.proofs.Images.Standing.{length_spelled}
-use Rattle.exif_tiff.specs.declared.stop.Stop.{Stop}
-use Rattle.exif_tiff.specs.declared.stop.Stop.TheVariants as stop
-use Rattle.exif_edit_base.specs.Causes.{Becomes, Fails, no_field, offset_named}
+use Rattle.exif_edit_base.specs.Causes.{Cause, no_field, of_data, offset_named}
 use Rattle.exif_edit_base.specs.Locations.{located}
-use Rattle.exif_edit_base.specs.Readings.{Read, ReadsTo, reading}
-use Rattle.exif_edit_base.specs.declared.error.Error.{Error}
+use Rattle.exif_edit_base.specs.Readings.{Read, reading}
 use Rattle.exif_edit_base.specs.declared.patch.Patch.{Patch}
 use Rattle.exif_edit_base.specs.Walked.{entry_of}
 use Rattle.exif_edit_base.specs.Patches.{padded, zeros_over}
@@ -174,12 +171,11 @@ spans_append xs ys = map-append zeros_over xs ys
 
 -- ---- the whole
 
--- where reading stops, the removal of a name fails with the error that the stop becomes
-pub remove_fault : (s : Stop) (bytes : List ℕ) (tag : Tag) (k : In) (e : Error)
-    → ReadsTo (Err s) (reading bytes) → Becomes s e → Fails e (named_removals bytes tag k)
+-- where the data are refused, so is taking a name out of them
+pub remove_refused : (bytes : List ℕ) (tag : Tag) (k : In) (c : Cause)
+    → of_data (reading bytes) ≡ Err c → named_removals bytes tag k ≡ Err c
 unfolding named_removals
-remove_fault stop.OutOfMemory bytes tag k e h b = rw b refl
-remove_fault (stop.Fault fault) bytes tag k e h b = rw (b, h) refl
+remove_refused bytes tag k c h = rw h refl
 
 -- of data that were read, a name is taken out of the directories that have fields of it
 pub named_from : (bytes : List ℕ) (tag : Tag) (k : In) (read : Read) → reading bytes ≡ Ok read

@@ -2,14 +2,16 @@
 
 ghost use Rattle.std.specs.Prelude.{◌≡◌, ◌≢◌, ◌≤◌, ◌-◌, ◌<◌, ◌^◌, All, length, replicate, Err, IfOk, OnOk};
 ghost use Rattle.exif_layout.specs.Encoding.{spelled};
-ghost use Rattle.exif_edit_base.specs.Causes.{Edits, Makes};
+ghost use Rattle.exif_edit_base.specs.Causes.{Edits};
 ghost use Rattle.exif_edit_base.specs.Patches.{FitsIn, put_at};
+ghost use Rattle.exif_edit_base.specs.Plans.{Plans};
 ghost use Rattle.exif_edit_base.specs.declared.error.Error.TheVariants.{OutOfMemory};
 ghost use Rattle.exif_edit.specs.Clearing.{IsCleared, clear_answer, clear_patches, clearing, empty_offset};
 
 use exif_base::{BigEndian, Endian, Items, LittleEndian, Order};
 use exif_edit_base::Error;
 use exif_edit_base::patch::{Patch, Span, zeros};
+use exif_edit_base::plan::{Plan, Wanted};
 use exif_layout::item::spelled_u32;
 use exif_tiff::tiff::header;
 use std::alloc::{AllocError, Global};
@@ -62,17 +64,20 @@ fn clearing(alloc: Global, order: Order, total: usize) -> Result<Vec<Patch>, All
     Ok(patches)
 }
 
-/// What [`erase_all`] puts over the data, as data. The data stay as they are.
-pub fn erase_all_patches(alloc: Global, bytes: &[u8]) -> Result<Vec<Patch>, Error>
-    ensures answer { Makes (λ ps. ps.items) result (clear_patches bytes.now) }
-    ensures within { IfOk result (λ ps. All (FitsIn (length bytes.now)) ps.items) }
+/// What [`erase_all`] puts over the data, which need not be read again.
+pub fn plan(alloc: Global, bytes: &[u8]) -> Result<Plan, Error>
+    ensures answer { Plans result bytes.now (clear_patches bytes.now) }
+    ensures within { IfOk result (λ p. All (FitsIn (length bytes.now)) p.patches.items) }
 {
     let order = match header(bytes) {
         Ok(order) => order,
         Err(fault) => return Err(Error::Header(fault)),
     };
     let patches = clearing(alloc, order, bytes.len())?;
-    Ok(patches)
+    Ok(Plan {
+        patches,
+        wanted: Wanted::Anything,
+    })
 }
 
 /// Erases all fields: the byte order and the number 42 stay, and all behind them becomes zero, but

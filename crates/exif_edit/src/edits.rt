@@ -3,15 +3,14 @@
 ghost use Rattle.std.specs.Prelude.{◌≡◌, All, length, IfOk, OnOk};
 ghost use Rattle.exif_edit_base.specs.Causes.{Edits, Makes};
 ghost use Rattle.exif_edit_base.specs.Patches.{FitsIn};
-ghost use Rattle.exif_edit.specs.Edits.{IsEdited, allowed, edit_patches, edited, limited_edit, limited_patches};
+ghost use Rattle.exif_edit_base.specs.Plans.{Plans};
+ghost use Rattle.exif_edit.specs.Edits.{IsEdited, limited_edit, limited_patches};
 
-use crate::clear::{erase_all, erase_all_patches};
-use crate::erase::{erase_gps, erase_gps_patches};
-use crate::remove::{erase_field, erase_field_patches};
-use crate::set::{set_value, set_value_patches};
+use crate::clear::erase_all;
+use crate::{clear, erase, remove, set};
 use exif_edit_base::Error;
-use exif_edit_base::limit::check_limit;
 use exif_edit_base::patch::Patch;
+use exif_edit_base::plan::{Plan, carry_out, try_on_copy};
 use exif_types::{In, Tag, Value};
 use std::alloc::Global;
 
@@ -63,49 +62,20 @@ pub enum Edit {
     EraseAll,
 }
 
-// Refuses an edit that would read more entries than a limit.
-fn check(alloc: Global, edit: &Edit, limit: Option<u64>, bytes: &[u8]) -> Result<(), Error>
-    ensures { Makes (λ (u : Unit {0}). u) result (allowed limit edit.now bytes.now) }
-{
-    match edit {
-        Edit::EraseAll => Ok(()),
-        Edit::Set { .. } | Edit::EraseGps | Edit::EraseField { .. } => {
-            check_limit(alloc, bytes, limit)
-        }
-    }
-}
-
-// Carries an edit out, whatever the number of entries.
-fn carry_out(alloc: Global, edit: &Edit, bytes: &mut [u8]) -> Result<(), Error>
-    ensures answer { Edits result bytes.old bytes.new (edited edit.now bytes.old) }
-    ensures promise { OnOk result (IsEdited edit.now bytes.old bytes.new) }
+// What an edit puts over data, and how they must be read then.
+fn plan(alloc: Global, edit: &Edit, limit: Option<u64>, bytes: &[u8]) -> Result<Plan, Error>
+    ensures answer { Plans result bytes.now (limited_patches limit edit.now bytes.now) }
+    ensures within { IfOk result (λ p. All (FitsIn (length bytes.now)) p.patches.items) }
 {
     match edit {
         Edit::Set {
             tag,
             ifd_num,
             value,
-        } => set_value(alloc, bytes, *tag, *ifd_num, value),
-        Edit::EraseGps => erase_gps(alloc, bytes),
-        Edit::EraseField { tag, ifd_num } => erase_field(alloc, bytes, *tag, *ifd_num),
-        Edit::EraseAll => erase_all(bytes),
-    }
-}
-
-// What it puts over the data then.
-fn all_patches(alloc: Global, edit: &Edit, bytes: &[u8]) -> Result<Vec<Patch>, Error>
-    ensures answer { Makes (λ ps. ps.items) result (edit_patches edit.now bytes.now) }
-    ensures within { IfOk result (λ ps. All (FitsIn (length bytes.now)) ps.items) }
-{
-    match edit {
-        Edit::Set {
-            tag,
-            ifd_num,
-            value,
-        } => set_value_patches(alloc, bytes, *tag, *ifd_num, value),
-        Edit::EraseGps => erase_gps_patches(alloc, bytes),
-        Edit::EraseField { tag, ifd_num } => erase_field_patches(alloc, bytes, *tag, *ifd_num),
-        Edit::EraseAll => erase_all_patches(alloc, bytes),
+        } => set::plan(alloc, bytes, limit, *tag, *ifd_num, value),
+        Edit::EraseGps => erase::plan(alloc, bytes, limit),
+        Edit::EraseField { tag, ifd_num } => remove::plan(alloc, bytes, limit, *tag, *ifd_num),
+        Edit::EraseAll => clear::plan(alloc, bytes),
     }
 }
 
@@ -113,14 +83,16 @@ fn all_patches(alloc: Global, edit: &Edit, bytes: &[u8]) -> Result<Vec<Patch>, E
 ///
 /// Data with more entries than the limit, if there is one, are refused with `Header`, as a reader
 /// refuses them; all fields are erased whatever their number. The other refusals are those of the
-/// edit. Beside the memory of the edit it takes, before that, the memory of one reading up to the
-/// limit.
+/// edit, and so is the memory: the limit takes no reading of its own.
 pub fn apply(alloc: Global, edit: &Edit, limit: Option<u64>, bytes: &mut [u8]) -> Result<(), Error>
     ensures answer { Edits result bytes.old bytes.new (limited_edit limit edit.now bytes.old) }
     ensures promise { OnOk result (IsEdited edit.now bytes.old bytes.new) }
 {
-    check(alloc, edit, limit, bytes)?;
-    carry_out(alloc, edit, bytes)
+    if let Edit::EraseAll = edit {
+        return erase_all(bytes);
+    }
+    let plan = plan(alloc, edit, limit, bytes)?;
+    carry_out(alloc, bytes, plan)
 }
 
 /// What [`apply`] puts over the data, which stay as they are. The refusals are the same. Where
@@ -135,6 +107,6 @@ pub fn patches_of(
         (limited_patches limit edit.now bytes.now) }
     ensures within { IfOk result (λ ps. All (FitsIn (length bytes.now)) ps.items) }
 {
-    check(alloc, edit, limit, bytes)?;
-    all_patches(alloc, edit, bytes)
+    let plan = plan(alloc, edit, limit, bytes)?;
+    try_on_copy(alloc, bytes, plan)
 }

@@ -4,7 +4,8 @@ ghost use Rattle.std.specs.Prelude.{◌≡◌, ◌≤◌, ◌<◌, ◌+◌, ◌*
 ghost use Rattle.std.specs.List.{flat_map};
 ghost use Rattle.exif_base.specs.Bytes.{spaced};
 ghost use Rattle.exif_base.specs.Orders.{number_of, order_named};
-ghost use Rattle.exif_edit_base.specs.Causes.{Edits, Makes};
+ghost use Rattle.exif_edit_base.specs.Causes.{Edits};
+ghost use Rattle.exif_edit_base.specs.EntryLimit.{limited};
 ghost use Rattle.exif_edit_base.specs.Locations.{visited_gps};
 ghost use Rattle.exif_edit_base.specs.Patches.{FitsIn, zeros_over};
 ghost use Rattle.exif_edit_base.specs.Readings.{read_of, reading};
@@ -13,14 +14,14 @@ ghost use Rattle.exif_edit_base.specs.Spans.{value_span};
 ghost use Rattle.exif_edit_base.specs.Walked.{Finds};
 ghost use Rattle.exif_edit.specs.Erasing.{clipped, directory_spans, done_of, erase_answer, erase_patches, gps_space, gps_spans, gps_value_span, is_gps, item_len, without_gps, zeros_planned};
 ghost use Rattle.exif_edit_base.specs.Plans.{Plans, planned};
-ghost use Rattle.exif_edit.specs.Promises.{IsErased};
 
 use crate::alone::gps_is_unshared;
 use exif_base::Order;
+use exif_edit_base::limit::locate_within;
 use exif_edit_base::offsets::{gps_offsets, whole_entries};
 use exif_edit_base::patch::{Patch, Span, zeros};
-use exif_edit_base::plan::{Plan, Wanted, carry_out, try_on_copy};
-use exif_edit_base::read::{locate, number16, number32, order_named, read};
+use exif_edit_base::plan::{Plan, Wanted, carry_out};
+use exif_edit_base::read::{number16, number32, order_named, read};
 use exif_edit_base::{Error, Located};
 use exif_tiff::stop::Stop;
 use exif_tiff::tiff::Parsed;
@@ -238,44 +239,15 @@ fn located_plan(alloc: Global, bytes: &[u8], located: Located) -> Result<Plan, A
     Ok(plan_of(zeros, located.parsed))
 }
 
-// What erases GPS data, and how the data must be read then: as anything if they are unshared.
-fn plan(alloc: Global, bytes: &[u8]) -> Result<Plan, Error>
-    ensures answer { Plans result bytes.now (erase_patches bytes.now) }
+/// What erases GPS data, and how the data must be read then: as anything if they are unshared. Data
+/// with more entries than the limit are refused before that.
+pub(crate) fn plan(alloc: Global, bytes: &[u8], limit: Option<u64>) -> Result<Plan, Error>
+    ensures answer { Plans result bytes.now (limited limit bytes.now (erase_patches bytes.now)) }
     ensures within { IfOk result (λ p. All (FitsIn (length bytes.now)) p.patches.items) }
 {
-    let located = locate(alloc, bytes)?;
+    let located = locate_within(alloc, bytes, limit)?;
     let plan = located_plan(alloc, bytes, located)?;
     Ok(plan)
-}
-
-/// What [`erase_gps`] puts over the data, as data: zeros over each GPS directory, and over each
-/// of its values. The data stay as they are. Where bytes are shared, it takes the memory of a copy,
-/// too.
-pub fn erase_gps_patches(alloc: Global, bytes: &[u8]) -> Result<Vec<Patch>, Error>
-    ensures answer { Makes (λ ps. ps.items) result (erase_patches bytes.now) }
-    ensures within { IfOk result (λ ps. All (FitsIn (length bytes.now)) ps.items) }
-{
-    let plan = plan(alloc, bytes)?;
-    try_on_copy(alloc, bytes, plan)
-}
-
-/// Puts zeros over the GPS directories to which data point, and over their values: those that
-/// reading visits, and those to which a GPS pointer of type SHORT, LONG, SLONG or IFD leads from
-/// the chain, however long it is, from Exif and interoperability directories, and from SubIFDs. Of
-/// a value that is cut off by the end of the data the part that is there goes. The pointers stay,
-/// to empty directories. Locations in XMP, in maker notes and in bytes that nothing points to stay
-/// too; [`leftovers`](exif_edit_base::leftovers) says where GPS pointers lead that are not
-/// followed.
-///
-/// Refusals are `Header` and `SharedBytes`, which unshared GPS data never get (see
-/// [`laws`](crate::laws)). It takes the memory of one reading and of the zeros; and where bytes are
-/// shared, of a second reading and no copy.
-pub fn erase_gps(alloc: Global, bytes: &mut [u8]) -> Result<(), Error>
-    ensures answer { Edits result bytes.old bytes.new (erase_answer bytes.old) }
-    ensures erased { OnOk result (IsErased bytes.old bytes.new) }
-{
-    let plan = plan(alloc, bytes)?;
-    carry_out(alloc, bytes, plan)
 }
 
 /// Erases GPS data as [`Edit::EraseGps`](crate::Edit) does, of data that were located already, which

@@ -7,7 +7,8 @@ ghost use Rattle.exif_base.specs.Orders.{number_of};
 ghost use Rattle.exif_tiff.specs.Trace.{directory_end};
 ghost use Rattle.exif_types.specs.Lookup.{is_named};
 ghost use Rattle.exif_layout.specs.Encoding.{spelled};
-ghost use Rattle.exif_edit_base.specs.Causes.{Edits, Makes};
+ghost use Rattle.exif_edit_base.specs.Causes.{Edits};
+ghost use Rattle.exif_edit_base.specs.EntryLimit.{limited};
 ghost use Rattle.exif_edit_base.specs.Patches.{FitsIn, zeros_over};
 ghost use Rattle.exif_edit_base.specs.Readings.{read_of};
 ghost use Rattle.exif_edit_base.specs.Spans.{value_span};
@@ -20,10 +21,11 @@ ghost use Rattle.exif_edit.specs.declared.remove.Kept.{Kept};
 use crate::set::names_offsets;
 use exif_base::{BigEndian, Items, LittleEndian, Order};
 use exif_edit_base::find::is_named;
+use exif_edit_base::limit::{check_limit, locate_within};
 use exif_edit_base::offsets::whole_entries;
 use exif_edit_base::patch::{Patch, padded, zeros};
-use exif_edit_base::plan::{Plan, Wanted, carry_out, try_on_copy};
-use exif_edit_base::read::{locate, number16, order_named, read};
+use exif_edit_base::plan::{Plan, Wanted, carry_out};
+use exif_edit_base::read::{number16, order_named, read};
 use exif_edit_base::spans::value_span;
 use exif_edit_base::{EntryOffset, Error, Located};
 use exif_layout::item::{spelled_u16, spelled_u32};
@@ -294,11 +296,18 @@ pub fn drop_named(fields: &mut Vec<Field>, tag: Tag, ifd_num: In)
 }
 
 // What takes the fields of a name out of their directories, and how the data must be read then.
-fn plan_removals(alloc: Global, bytes: &[u8], tag: Tag, ifd_num: In) -> Result<Plan, Error>
-    ensures answer { Plans result bytes.now (named_removals bytes.now tag ifd_num) }
+fn plan_removals(
+    alloc: Global,
+    bytes: &[u8],
+    limit: Option<u64>,
+    tag: Tag,
+    ifd_num: In,
+) -> Result<Plan, Error>
+    ensures answer { Plans result bytes.now
+        (limited limit bytes.now (named_removals bytes.now tag ifd_num)) }
     ensures within { IfOk result (λ p. All (FitsIn (length bytes.now)) p.patches.items) }
 {
-    let Located { mut parsed, walk } = locate(alloc, bytes)?;
+    let Located { mut parsed, walk } = locate_within(alloc, bytes, limit)?;
     let offsets = directories_with(
         alloc,
         parsed.fields.as_slice(),
@@ -319,30 +328,25 @@ fn plan_removals(alloc: Global, bytes: &[u8], tag: Tag, ifd_num: In) -> Result<P
     })
 }
 
-// The same, unless the field holds offsets of other bytes.
-fn plan(alloc: Global, bytes: &[u8], tag: Tag, ifd_num: In) -> Result<Plan, Error>
-    ensures answer { Plans result bytes.now (field_patches bytes.now tag ifd_num) }
+/// What takes the fields of a name out of their directories, unless they hold offsets of other
+/// bytes, and how the data must be read then. Data with more entries than the limit are refused
+/// before that.
+pub(crate) fn plan(
+    alloc: Global,
+    bytes: &[u8],
+    limit: Option<u64>,
+    tag: Tag,
+    ifd_num: In,
+) -> Result<Plan, Error>
+    ensures answer { Plans result bytes.now
+        (limited limit bytes.now (field_patches bytes.now tag ifd_num)) }
     ensures within { IfOk result (λ p. All (FitsIn (length bytes.now)) p.patches.items) }
 {
     if names_offsets(tag) {
+        check_limit(alloc, bytes, limit)?;
         return Err(Error::NamesOffsets);
     }
-    plan_removals(alloc, bytes, tag, ifd_num)
-}
-
-/// What [`erase_field`] puts over the data, as data: each directory that has such a field without
-/// it, and zeros over the values. The data stay as they are. It takes the memory of a copy, too.
-pub fn erase_field_patches(
-    alloc: Global,
-    bytes: &[u8],
-    tag: Tag,
-    ifd_num: In,
-) -> Result<Vec<Patch>, Error>
-    ensures answer { Makes (λ ps. ps.items) result (field_patches bytes.now tag ifd_num) }
-    ensures within { IfOk result (λ ps. All (FitsIn (length bytes.now)) ps.items) }
-{
-    let plan = plan(alloc, bytes, tag, ifd_num)?;
-    try_on_copy(alloc, bytes, plan)
+    plan_removals(alloc, bytes, limit, tag, ifd_num)
 }
 
 /// Takes all fields of a name out of their directories. The entries behind them and the offset of
@@ -356,6 +360,6 @@ pub fn erase_field(alloc: Global, bytes: &mut [u8], tag: Tag, ifd_num: In) -> Re
     ensures erased { OnOk result (IsFieldErased bytes.old tag ifd_num bytes.new) }
     ensures gone { OnOk result (FindsNone tag ifd_num bytes.new) }
 {
-    let plan = plan(alloc, bytes, tag, ifd_num)?;
+    let plan = plan(alloc, bytes, None, tag, ifd_num)?;
     carry_out(alloc, bytes, plan)
 }

@@ -10,13 +10,13 @@ ghost use Rattle.exif_types.specs.declared.error.Error.TheVariants as Failure;
 ghost use Rattle.exif_layout.specs.Encoding.{encode, moved_to};
 ghost use Rattle.exif_layout.specs.Ranged.{IsRanged};
 ghost use Rattle.exif_layout.specs.Refused.{is_unknown};
-ghost use Rattle.exif_edit_base.specs.Causes.{Edits, Makes};
+ghost use Rattle.exif_edit_base.specs.Causes.{Makes};
+ghost use Rattle.exif_edit_base.specs.EntryLimit.{limited};
 ghost use Rattle.exif_edit_base.specs.Finding.{IsLastAt, replaced};
 ghost use Rattle.exif_edit_base.specs.Patches.{FitsIn};
 ghost use Rattle.exif_edit_base.specs.Plans.{Plans};
-ghost use Rattle.exif_edit.specs.Promises.{FindsValue, IsSet};
 ghost use Rattle.exif_edit_base.specs.Spans.{value_space};
-ghost use Rattle.exif_edit.specs.Setting.{checked_patches, names_offsets, space_patches, set_answer, set_patches, set_offset, value_answer, value_patches};
+ghost use Rattle.exif_edit.specs.Setting.{checked_patches, names_offsets, space_patches, set_patches, set_offset, value_answer, value_patches};
 ghost use Rattle.exif_edit.specs.Sharing.{names_child, is_unshared};
 ghost use Rattle.exif_edit.specs.declared.set.Edit.{Edit};
 
@@ -24,9 +24,10 @@ use crate::alone::is_unshared;
 use crate::spell::{encode, entry_bytes, is_unknown};
 use exif_base::{Items, Order};
 use exif_edit_base::Error;
-use exif_edit_base::find::{Found, find};
+use exif_edit_base::find::{Found, find_within};
+use exif_edit_base::limit::check_limit;
 use exif_edit_base::patch::{Patch, Span, padded};
-use exif_edit_base::plan::{Plan, Wanted, carry_out, try_on_copy};
+use exif_edit_base::plan::{Plan, Wanted, try_on_copy};
 use exif_edit_base::read::order_named;
 use exif_edit_base::spans::value_space;
 use exif_layout::show_value_fits;
@@ -234,34 +235,47 @@ fn is_alone(order: Order, bytes: &[u8], tag: Tag, value: &Value, found: &Found, 
     )
 }
 
-// What puts a value over the last one of a name, and how the data must be read then.
-fn plan(alloc: Global, bytes: &[u8], tag: Tag, ifd_num: In, value: &Value) -> Result<Plan, Error>
-    ensures answer { Plans result bytes.now (set_patches bytes.now tag ifd_num value.now) }
+/// What puts a value over the last one of a name, and how the data must be read then. Data with
+/// more entries than the limit are refused before that.
+pub(crate) fn plan(
+    alloc: Global,
+    bytes: &[u8],
+    limit: Option<u64>,
+    tag: Tag,
+    ifd_num: In,
+    value: &Value,
+) -> Result<Plan, Error>
+    ensures answer { Plans result bytes.now
+        (limited limit bytes.now (set_patches bytes.now tag ifd_num value.now)) }
     ensures within { IfOk result (λ p. All (FitsIn (length bytes.now)) p.patches.items) }
 {
     if names_offsets(tag) {
+        check_limit(alloc, bytes, limit)?;
         return Err(Error::NamesOffsets);
     }
     if is_unknown(value) {
+        check_limit(alloc, bytes, limit)?;
         return Err(Error::UnknownType);
     }
-    plan_known(alloc, bytes, tag, ifd_num, value)
+    plan_known(alloc, bytes, limit, tag, ifd_num, value)
 }
 
 // The same of a value that may be set: they need no reading if the entry is unshared.
 fn plan_known(
     alloc: Global,
     bytes: &[u8],
+    limit: Option<u64>,
     tag: Tag,
     ifd_num: In,
     value: &Value,
 ) -> Result<Plan, Error>
     requires movable { names_offsets tag ≡ false }
     requires known { is_unknown value.now ≡ false }
-    ensures answer { Plans result bytes.now (checked_patches bytes.now tag ifd_num value.now) }
+    ensures answer { Plans result bytes.now
+        (limited limit bytes.now (checked_patches bytes.now tag ifd_num value.now)) }
     ensures within { IfOk result (λ p. All (FitsIn (length bytes.now)) p.patches.items) }
 {
-    let mut found = find(alloc, bytes, tag, ifd_num)?;
+    let mut found = find_within(alloc, bytes, limit, tag, ifd_num)?;
     let order = order_named(found.parsed.little_endian);
     let edit = make_edit(alloc, bytes, order, value, found.entry)?;
     if is_alone(order, bytes, tag, value, &found, &edit) {
@@ -278,8 +292,9 @@ fn plan_known(
     })
 }
 
-/// What [`set_value`] puts over the data, as data: at most two patches. The data stay as they are.
-/// Where bytes are shared, it takes the memory of a copy, too.
+/// What [`Edit::Set`](crate::Edit) puts over the data, whatever the number of their entries: at most
+/// two patches. The data stay as they are. The refusals are those of the edit. It takes the memory
+/// of one reading; and where bytes are shared, of a second reading and of a copy.
 pub fn set_value_patches(
     alloc: Global,
     bytes: &[u8],
@@ -291,29 +306,6 @@ pub fn set_value_patches(
         (set_patches bytes.now tag ifd_num value.now) }
     ensures within { IfOk result (λ ps. All (FitsIn (length bytes.now)) ps.items) }
 {
-    let plan = plan(alloc, bytes, tag, ifd_num, value)?;
+    let plan = plan(alloc, bytes, None, tag, ifd_num, value)?;
     try_on_copy(alloc, bytes, plan)
-}
-
-/// Puts a value over the last one of a name: into its entry where it takes at most four
-/// bytes, else where the old one is. The type, the count and the offset of the entry follow, and
-/// spare bytes become zero.
-///
-/// Refusals are `NamesOffsets`, `UnknownType`, `Header`, `FieldNotFound`, `ValueTooLong` and
-/// `SharedBytes`, which a value of an unshared entry never gets (see [`laws`](crate::laws)). It
-/// takes the memory of one reading; and where bytes are shared, of a second reading and no copy.
-pub fn set_value(
-    alloc: Global,
-    bytes: &mut [u8],
-    tag: Tag,
-    ifd_num: In,
-    value: &Value,
-) -> Result<(), Error>
-    ensures answer { Edits result bytes.old bytes.new
-        (set_answer bytes.old tag ifd_num value.now) }
-    ensures set { OnOk result (IsSet bytes.old tag ifd_num value.now bytes.new) }
-    ensures found { OnOk result (FindsValue tag ifd_num value.now bytes.new) }
-{
-    let plan = plan(alloc, bytes, tag, ifd_num, value)?;
-    carry_out(alloc, bytes, plan)
 }

@@ -16,13 +16,10 @@ use Rattle.exif_types.specs.declared.field.Field.{Field}
 use Rattle.exif_tiff.specs.Trace.{Node, entry_of, header, ordered_trace, trace, fields_of, faults_of, located_of}
 use Rattle.exif_tiff.specs.declared.offset.EntryOffset.{EntryOffset}
 use Rattle.exif_tiff.specs.declared.fault.Fault.{Fault}
-use Rattle.exif_tiff.specs.declared.stop.Stop.{Stop}
-use Rattle.exif_tiff.specs.declared.stop.Stop.TheVariants as stop
-use Rattle.exif_edit_base.specs.Causes.{Becomes, Fails, no_field}
+use Rattle.exif_edit_base.specs.Causes.{Cause, no_field, of_data}
 use Rattle.exif_edit_base.specs.Finding.{IsLastAt, find_answer, last_located, replaced, with_value}
 use Rattle.exif_edit_base.specs.Locations.{Located, located}
-use Rattle.exif_edit_base.specs.Readings.{Read, is_little, reading, ReadsTo}
-use Rattle.exif_edit_base.specs.declared.error.Error.{Error}
+use Rattle.exif_edit_base.specs.Readings.{Read, is_little, reading}
 use Rattle.exif_edit_base.proofs.LawsLocated.{ordered_fields}
 use Rattle.exif_edit_base.proofs.ReadSteps.{reading_by}
 
@@ -135,12 +132,11 @@ pub fields_read : (bytes : List ℕ) (read : Read) → reading bytes ≡ Ok read
 unfolding reading located trace
 fields_read bytes read e = fields_by (header bytes) bytes read e
 
--- where reading stops, the search of a field fails with the error that the stop becomes
-pub find_fault : (s : Stop) (bytes : List ℕ) (tag : Tag) (k : In) (e : Error)
-    → ReadsTo (Err s) (reading bytes) → Becomes s e → Fails e (find_answer bytes tag k)
+-- where the data are refused, so is the search of a field
+pub find_refused : (bytes : List ℕ) (tag : Tag) (k : In) (c : Cause)
+    → of_data (reading bytes) ≡ Err c → find_answer bytes tag k ≡ Err c
 unfolding find_answer
-find_fault stop.OutOfMemory bytes tag k e h b = rw b refl
-find_fault (stop.Fault fault) bytes tag k e h b = rw (b, h) refl
+find_refused bytes tag k c h = rw h refl
 
 -- where no field that was read has the name, the search finds no such field
 pub find_missing : (bytes : List ℕ) (tag : Tag) (k : In) (read : Read) → reading bytes ≡ Ok read

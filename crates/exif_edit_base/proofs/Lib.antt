@@ -6,6 +6,7 @@ pub mod LawsLocated
 pub mod LeftSteps
 pub mod LimitSteps
 pub mod LimitedReading
+pub mod LimitedSteps
 pub mod LocatedEntries
 pub mod OffsetSteps
 pub mod PatchSteps

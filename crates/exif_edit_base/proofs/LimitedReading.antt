@@ -26,7 +26,7 @@ few n bytes h = grind (arith, nat_tests)
 
 -- the answer by whether there are more entries
 limited_by : (n : ℕ) (bytes : List ℕ) (b : Bool) → has_more n bytes ≡ b
-    → limited_reading n bytes
+    → limited_reading (Some n) bytes
     ≡ (unless b (wrong_header TooManyEntries) >>= λ u. of_data (reading bytes))
 limited_by n bytes b h =
     ap (λ (x : Bool). unless x (wrong_header TooManyEntries) >>= λ u. of_data (reading bytes)) h
@@ -34,7 +34,7 @@ limited_by n bytes b h =
 -- a stop is that of a wrong header
 pub limited_refusal : (n : ℕ) (bytes : List ℕ) (fault : Fault)
     → raw_answer true (Some n) bytes ≡ Refused fault
-    → limited_reading n bytes ≡ Err (wrong_header fault)
+    → limited_reading (Some n) bytes ≡ Err (wrong_header fault)
 limited_refusal n bytes fault h =
     let none = sym (refusal_tells n bytes fault h) in
     let whole = sym (answers_within n bytes true (few n bytes none)) ∙ h in
@@ -44,7 +44,7 @@ limited_refusal n bytes fault h =
 -- and the error that it becomes is the refusal
 pub limited_stop : (s : Stop) (n : ℕ) (bytes : List ℕ) (e : Error)
     → Says (Err s) (raw_answer true (Some n) bytes) → Becomes s e
-    → Fails e (limited_reading n bytes)
+    → Fails e (limited_reading (Some n) bytes)
 limited_stop stop.OutOfMemory n bytes e h b = rw b refl
 limited_stop (stop.Fault fault) n bytes e h b = rw b (limited_refusal n bytes fault h)
 
@@ -52,7 +52,7 @@ limited_stop (stop.Fault fault) n bytes e h b = rw b (limited_refusal n bytes fa
 pub limited_many : (n : ℕ) (bytes : List ℕ) (parsed : Parsed)
     → raw_answer true (Some n) bytes ≡ shown parsed.fields.items parsed.faults.items
     → list_any is_limit_fault parsed.faults.items ≡ true
-    → limited_reading n bytes ≡ Err (wrong_header TooManyEntries)
+    → limited_reading (Some n) bytes ≡ Err (wrong_header TooManyEntries)
 limited_many n bytes parsed h many =
     limited_by n bytes true
     (sym (answer_tells n bytes parsed.fields.items parsed.faults.items h) ∙ many)
@@ -69,7 +69,7 @@ pub limited_whole : (n : ℕ) (bytes : List ℕ) (parsed : Parsed)
     → raw_answer true (Some n) bytes ≡ shown parsed.fields.items parsed.faults.items
     → SaysOrder (Ok parsed) bytes
     → list_any is_limit_fault parsed.faults.items ≡ false
-    → limited_reading n bytes ≡ Ok (read_of parsed)
+    → limited_reading (Some n) bytes ≡ Ok (read_of parsed)
 limited_whole n bytes parsed h order none =
     let fit = none_more n bytes parsed h none in
     let whole = sym (answers_within n bytes true (few n bytes fit)) ∙ h in

@@ -24,7 +24,10 @@ exceeds (Some limit) bytes = has_more limit bytes
 abbrev pub within_limit : Option ℕ → List ℕ → Result (Unit {0}) Cause
 within_limit limit bytes = unless (exceeds limit bytes) (wrong_header TooManyEntries)
 
+-- an answer, unless the data have more entries than a limit
+abbrev pub limited : {A : Type 0} → Option ℕ → List ℕ → Result A Cause → Result A Cause
+limited limit bytes answer = within_limit limit bytes >>= λ u. answer
+
 -- what data hold, unless they have more entries than a limit
-abbrev pub limited_reading : ℕ → List ℕ → Result Read Cause
-limited_reading limit bytes =
-    within_limit (Some limit) bytes >>= λ u. of_data (reading bytes)
+abbrev pub limited_reading : Option ℕ → List ℕ → Result Read Cause
+limited_reading limit bytes = limited limit bytes (of_data (reading bytes))

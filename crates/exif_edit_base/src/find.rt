@@ -4,12 +4,13 @@ ghost use Rattle.std.specs.Prelude.{◌≡◌, ◌<◌, ◌^◌, All, length, fa
 ghost use Rattle.exif_types.specs.Lookup.{is_named};
 ghost use Rattle.exif_edit_base.specs.Walked.{Finds};
 ghost use Rattle.exif_edit_base.specs.Causes.{Makes};
+ghost use Rattle.exif_edit_base.specs.EntryLimit.{limited};
 ghost use Rattle.exif_edit_base.specs.Finding.{IsLastAt, find_answer};
 ghost use Rattle.exif_edit_base.specs.Readings.{read_of};
 ghost use Rattle.exif_edit_base.specs.declared.find.Found.{Found};
 
 use crate::error::Error;
-use crate::read::locate;
+use crate::limit::locate_within;
 use crate::walk::{Located, Walk};
 use exif_tiff::EntryOffset;
 use exif_tiff::tiff::Parsed;
@@ -56,15 +57,21 @@ fn at(entries: &[EntryOffset], index: usize) -> EntryOffset
     entries[index]
 }
 
-/// Reads the data and finds the last field of a name.
-pub fn find(alloc: Global, bytes: &[u8], tag: Tag, ifd_num: In) -> Result<Found, Error>
+/// Reads the data, unless they have more entries than a limit, and finds the last field of a name.
+pub fn find_within(
+    alloc: Global,
+    bytes: &[u8],
+    limit: Option<u64>,
+    tag: Tag,
+    ifd_num: In,
+) -> Result<Found, Error>
     ensures answer { Makes (λ (f : Found). (read_of f.parsed, f.entry)) result
-        (find_answer bytes.now tag ifd_num) }
+        (limited limit bytes.now (find_answer bytes.now tag ifd_num)) }
     ensures last { IfOk result (λ f. IsLastAt tag ifd_num f.parsed.fields.items f.index) }
     ensures offsets { IfOk result (λ f. Finds bytes.now f.walk) }
     ensures small { OnOk result (length bytes.now < 2 ^ 32) }
 {
-    let Located { parsed, walk } = locate(alloc, bytes)?;
+    let Located { parsed, walk } = locate_within(alloc, bytes, limit)?;
     match last_index(parsed.fields.as_slice(), tag, ifd_num) {
         None => Err(Error::FieldNotFound),
         Some(index) => {
@@ -77,4 +84,15 @@ pub fn find(alloc: Global, bytes: &[u8], tag: Tag, ifd_num: In) -> Result<Found,
             })
         }
     }
+}
+
+/// Reads the data and finds the last field of a name.
+pub fn find(alloc: Global, bytes: &[u8], tag: Tag, ifd_num: In) -> Result<Found, Error>
+    ensures answer { Makes (λ (f : Found). (read_of f.parsed, f.entry)) result
+        (find_answer bytes.now tag ifd_num) }
+    ensures last { IfOk result (λ f. IsLastAt tag ifd_num f.parsed.fields.items f.index) }
+    ensures offsets { IfOk result (λ f. Finds bytes.now f.walk) }
+    ensures small { OnOk result (length bytes.now < 2 ^ 32) }
+{
+    find_within(alloc, bytes, None, tag, ifd_num)
 }

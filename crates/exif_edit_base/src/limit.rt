@@ -1,6 +1,6 @@
 //! A limit on the entries of data that are edited.
 
-ghost use Rattle.std.specs.Prelude.{◌≡◌, ◌≤◌, ◌<◌, ◌^◌, length, IfOk, OnOk};
+ghost use Rattle.std.specs.Prelude.{◌≡◌, ◌≤◌, ◌<◌, ◌^◌, length, IfOk, OnOk, Some};
 ghost use Rattle.std.specs.List.{list_any};
 ghost use Rattle.exif_edit_base.specs.Causes.{Makes};
 ghost use Rattle.exif_edit_base.specs.EntryLimit.{has_more, is_limit_fault, limited_reading, within_limit};
@@ -9,6 +9,7 @@ ghost use Rattle.exif_edit_base.specs.Walked.{Finds};
 ghost use Rattle.exif_edit_base.specs.declared.walk.Located.{Located};
 
 use crate::error::Error;
+use crate::read::locate;
 use crate::walk::{Located, read_located_within};
 use exif_tiff::Fault;
 use exif_tiff::stop::Stop;
@@ -61,12 +62,10 @@ pub fn check_limit(alloc: Global, bytes: &[u8], limit: Option<u64>) -> Result<()
     Ok(())
 }
 
-/// Reads data leniently, and answers the offsets of what is read: what [`check_limit`] and
-/// [`locate`](crate::read::locate) do, in one reading. Refusals are `Header(TooManyEntries)`, and
-/// `Header` with the fault of a wrong header.
-pub fn locate_within(alloc: Global, bytes: &[u8], limit: u64) -> Result<Located, Error>
+// What data hold and where, unless they have more entries than this.
+fn locate_up_to(alloc: Global, bytes: &[u8], limit: u64) -> Result<Located, Error>
     ensures reads { Makes (λ (l : Located). read_of l.parsed)
-        result (limited_reading limit bytes.now) }
+        result (limited_reading (Some limit) bytes.now) }
     ensures offsets { IfOk result (λ located. Finds bytes.now located.walk) }
     ensures space { OnOk result (8 ≤ length bytes.now) }
     ensures small { OnOk result (length bytes.now < 2 ^ 32) }
@@ -76,4 +75,20 @@ pub fn locate_within(alloc: Global, bytes: &[u8], limit: u64) -> Result<Located,
         return Err(Error::Header(Fault::TooManyEntries));
     }
     Ok(located)
+}
+
+/// Reads data leniently, and answers the offsets of what is read: what [`check_limit`] and
+/// [`locate`] do, in one reading. Refusals are `Header(TooManyEntries)`, and `Header` with the fault
+/// of a wrong header.
+pub fn locate_within(alloc: Global, bytes: &[u8], limit: Option<u64>) -> Result<Located, Error>
+    ensures reads { Makes (λ (l : Located). read_of l.parsed)
+        result (limited_reading limit bytes.now) }
+    ensures offsets { IfOk result (λ located. Finds bytes.now located.walk) }
+    ensures space { OnOk result (8 ≤ length bytes.now) }
+    ensures small { OnOk result (length bytes.now < 2 ^ 32) }
+{
+    match limit {
+        Some(limit) => locate_up_to(alloc, bytes, limit),
+        None => Ok(locate(alloc, bytes)?),
+    }
 }

@@ -2,7 +2,7 @@
 use Rattle.std.specs.Prelude.{◌≡◌, ℕ, ◌+◌, List, [], length, map, Option, Result, Ok, Err}
 use Rattle.exif_change.specs.Changed.{Undone, undone_of}
 use Rattle.exif_change.specs.Refusals.{Reason, ◌>>=◌}
-use Rattle.exif_pictures.specs.Pictures.{picture_fields_set}
+use Rattle.exif_setting.specs.Pictures.{picture_fields_set}
 use Rattle.exif_types.specs.declared.field.Field.{Field}
 use Rattle.exif_types.specs.declared.tag.Tag.{Tag}
 use Rattle.exif_geotag.specs.Erasing.{all_erased}

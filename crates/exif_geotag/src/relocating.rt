@@ -7,7 +7,7 @@ ghost use Rattle.exif_geotag.specs.Relocating.{IsRelocated, relocated, relocatio
 use crate::erasing::erase_all;
 use exif_change::{Changed, Note, Refusal, Residual};
 use exif_files::{Edit, EditError, Edited, Report};
-use exif_pictures::set_fields;
+use exif_setting::set_fields;
 use exif_types::{Field, Tag};
 use std::alloc::{AllocError, Global};
 use std::fmt;

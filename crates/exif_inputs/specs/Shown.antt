@@ -2,7 +2,7 @@
 use Rattle.std.specs.Prelude.{◌≡◌, ℕ, ◌+◌, nat_lt, Bool, true, false, if◌then◌else◌, List, [], ◌∷◌, drop, length, take, Option, Some, None, Result, Ok, Err}
 use Rattle.std.specs.List.Sorted.{IsNonDecreasingBy, IsPermutation}
 use Rattle.std.specs.Option.{option_map, option_or}
-use Rattle.exif_change.specs.Thumbnails.{thumbnail_in}
+use Rattle.exif_setting.specs.Thumbnails.{thumbnail_in}
 use Rattle.exif_formats.specs.Cr3.{cr3_thumbnail}
 use Rattle.exif_formats.specs.Formats.{format_in}
 use Rattle.exif_thumbnails.specs.Canon.{cr3_preview}

@@ -19,9 +19,10 @@ ghost use Rattle.exif_inputs.specs.Uses.{held};
 use crate::choosing::exif_read;
 use crate::inputs::{Input, open};
 use exif::{Counted, Error, Exif, Seekable};
-use exif_change::{ENTRY_LIMIT, Refusal, thumbnail};
+use exif_change::{ENTRY_LIMIT, Refusal};
 use exif_formats::raw::cr3::find_thumbnail;
 use exif_formats::{Format, Options, Picture, PictureFormat, read_bytes, read_picture};
+use exif_setting::thumbnail;
 use exif_thumbnails::{
     HeifThumbnail, Place, Thumbnail, ends_search, jpg_from_raw, place_of, preview_places,
     read_cr3_preview, read_heif_thumbnail, read_place, whole_stream,

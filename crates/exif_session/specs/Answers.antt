@@ -5,7 +5,8 @@ use Rattle.exif_change.specs.Refusals.{Reason}
 use Rattle.exif_change.specs.declared.notes.Color.TheVariants.{Keep, Strip}
 use Rattle.exif_change.specs.declared.notes.Note.{Note}
 use Rattle.exif_copy.specs.Selected.{selected}
-use Rattle.exif_pictures.specs.Pictures.{picture_notes, picture_scrubbed, picture_scrubbed_with_color, picture_set, picture_shifted}
+use Rattle.exif_change.specs.Pictures.{picture_notes, picture_scrubbed, picture_scrubbed_with_color}
+use Rattle.exif_setting.specs.Pictures.{picture_set, picture_shifted}
 use Rattle.exif_session.specs.declared.request.Change.{Change}
 use Rattle.exif_session.specs.declared.request.Change.TheVariants.{Copy, Scrub, Set, Shift}
 

@@ -1,7 +1,7 @@
 -- What the flags of a command line choose.
 use Rattle.std.specs.Prelude.{ℕ, Bool, if◌then◌else◌, List, Option, Some, None, Result, Ok, Err}
-use Rattle.exif_change.specs.declared.dates.Dates.{Dates}
-use Rattle.exif_change.specs.declared.dates.Dates.TheVariants as dates
+use Rattle.exif_setting.specs.declared.dates.Dates.{Dates}
+use Rattle.exif_setting.specs.declared.dates.Dates.TheVariants as dates
 use Rattle.exif_columns.specs.declared.cells.Form as cells
 use Rattle.exif_columns.specs.declared.cells.Form.TheVariants.{Display, Raw}
 use Rattle.exif_columns.specs.declared.rows.Separator.{Separator}

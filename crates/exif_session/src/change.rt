@@ -6,10 +6,10 @@ ghost use Rattle.exif_change.specs.Refusals.{Answers, Fails};
 ghost use Rattle.exif_session.specs.Answers.{IsAnswerOf, answer_of, notes_of, undone_in};
 
 use crate::request::Change;
-use exif_change::{Changed, Color, Note, Refusal, Residual};
+use exif_change::{Changed, Color, Note, Refusal, Residual, scrub, scrub_notes, scrub_with_color};
 use exif_copy::copy_selected;
 use exif_files::{Edit, EditError, Edited, Report};
-use exif_pictures::{scrub, scrub_notes, scrub_with_color, set, shift};
+use exif_setting::{set, shift};
 use std::alloc::{AllocError, Global};
 
 /// The changed file, and what was left undone in it.

@@ -5,9 +5,9 @@ ghost use Rattle.exif_files.specs.Names.{name_if};
 ghost use Rattle.exif_session.specs.Flags.{cells_by, date_tag_by, dates_by, form_by, separator_by};
 
 use crate::request::Form;
-use exif_change::Dates;
 use exif_columns::{self as columns, Separator};
 use exif_rename::DateTag;
+use exif_setting::Dates;
 
 /// Which dates `shift` moves: all, or those of the Exif directory only.
 pub fn dates_by(exif_only: bool) -> Dates

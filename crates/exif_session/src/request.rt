@@ -5,13 +5,14 @@ ghost use Rattle.exif_session.specs.Tasks.{changes, takes_companions, use_for};
 ghost use Rattle.exif_session.specs.Words.{partial_of, renamed_as, verb_of};
 
 use exif::Tag;
-use exif_change::{Assignment, ClockShift, Color, Dates, Removed};
+use exif_change::{Color, Removed};
 use exif_columns::{self as columns, Separator};
 use exif_copy::Selection;
 use exif_files::Keeping;
 use exif_formats::Options;
 use exif_inputs::Use;
 use exif_rename::{DateTag, Pattern};
+use exif_setting::{Assignment, ClockShift, Dates};
 use exif_summary::Choice;
 
 /// What the arguments request.

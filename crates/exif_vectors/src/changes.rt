@@ -3,11 +3,10 @@
 use crate::calls::{end_of, end_of_error, send};
 use crate::cases::{Call, Case, CaseError};
 use exif::{Sink, Source};
-use exif_change::{
-    Assignment, Changed, ClockShift, Dates, Refusal, Removed, Unread, read, thumbnail,
-};
+use exif_change::{Changed, Refusal, Removed, Unread, read};
 use exif_copy::{Selection, Shape, copy_selected};
 use exif_segments::util::read_all;
+use exif_setting::{Assignment, ClockShift, Dates, thumbnail};
 use std::alloc::{AllocError, Global};
 
 /// Reads a file, changes it, and sends what it is then. A refusal sends nothing but the old file.
@@ -31,7 +30,7 @@ fn changed<W: Sink>(
 ) -> Result<String, CaseError> {
     let old = file.clone()?;
     let answer = match case.call {
-        Call::ScrubFile => exif_pictures::scrub(alloc, old, removed(case)),
+        Call::ScrubFile => exif_change::scrub(alloc, old, removed(case)),
         Call::Assign => assigned(alloc, case, old)?,
         Call::Shift => shifted(alloc, case, old)?,
         Call::CopyExif => copied(alloc, case, old.as_slice()),
@@ -88,7 +87,7 @@ fn assigned(alloc: Global, case: &Case, old: Vec<u8>) -> Result<Answer, CaseErro
         };
         assignments.extend_from_slice(parsed.as_slice())?;
     }
-    Ok(exif_pictures::set(alloc, old, assignments.as_slice()))
+    Ok(exif_setting::set(alloc, old, assignments.as_slice()))
 }
 
 fn shifted(alloc: Global, case: &Case, old: Vec<u8>) -> Result<Answer, CaseError> {
@@ -100,7 +99,7 @@ fn shifted(alloc: Global, case: &Case, old: Vec<u8>) -> Result<Answer, CaseError
     } else {
         Dates::All
     };
-    Ok(exif_pictures::shift(alloc, old, by, dates))
+    Ok(exif_setting::shift(alloc, old, by, dates))
 }
 
 // The file with the metadata of the one that is put.

@@ -3,7 +3,7 @@ use Rattle.std.specs.Prelude.{ℕ, List, map, Bool, Option, option_map, Result, 
 use Rattle.std.specs.Global.{Global}
 use Rattle.std.specs.String.{string_bytes}
 use Rattle.exif_assign.specs.Assigning.{parts_of}
-use Rattle.exif_change.specs.declared.dates.Dates.{Dates}
+use Rattle.exif_setting.specs.declared.dates.Dates.{Dates}
 use Rattle.exif_change.specs.declared.notes.Color.{Color}
 use Rattle.exif_change.specs.declared.scrubbing.Removed.{Removed}
 use Rattle.exif_columns.specs.declared.cells.Form as cells

@@ -12,10 +12,10 @@ use crate::given::{is_set, text_or_empty};
 use crate::selection::{Wrong, keeping_of, request, take_last, takes_many, words_of, wrong};
 use crate::tags::unknown_tag;
 use clap::ArgMatches;
-use exif_change::{Assignment, ClockShift};
 use exif_copy::{Selection, Shape};
 use exif_decisions::{Aim, Escaped, Mistake, change_aim, is_assignment};
 use exif_session::{Change, Copying, Request, ScrubOption, ScrubOptions, Target, Task, dates_by};
+use exif_setting::{Assignment, ClockShift};
 use std::alloc::{AllocError, Global};
 
 /// Another name of `--locations-only`.

@@ -1,6 +1,6 @@
 //! Words that programs are given: what sets a value, and by how much dates are shifted.
 
-use exif_change::{Assignment, ClockShift};
+use exif_setting::{Assignment, ClockShift};
 
 #[test]
 fn words_that_set_nothing_known(rt: HostRuntime) {

@@ -1,5 +1,5 @@
 use Rattle.std.proofs.Common.{ap, subst, ◌∙◌, List, ℕ}
-use Rattle.exif_pictures.specs.Pictures.{picture_scrubbed}
+use Rattle.exif_change.specs.Pictures.{picture_scrubbed}
 use Rattle.exif_change.specs.Refusals.{Fails}
 use Rattle.exif_change.specs.declared.scrubbing.Removed.TheVariants.{Metadata}
 use Rattle.exif_c.specs.Statuses.{number_of}

@@ -1,6 +1,6 @@
 use Rattle.std.proofs.Common.{ap, ◌∙◌}
 use Rattle.exif_assign.specs.Assigning.{parts_of}
-use Rattle.exif_change.specs.Setting.{set_here}
+use Rattle.exif_setting.specs.Setting.{set_here}
 use Rattle.exif_c.specs.Statuses.{number_of}
 use Rattle.exif_c.proofs.Numbered.{ends_refused}
 use Rattle.exif_c.proofs.change.set_by.Goals as goal

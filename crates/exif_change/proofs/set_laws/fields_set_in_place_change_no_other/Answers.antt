@@ -1,5 +1,0 @@
-use Rattle.exif_change.proofs.SetInPlace.{set_in_place}
-use Rattle.exif_change.proofs.set_laws.fields_set_in_place_change_no_other.Goals as goal
-
-pub returns : goal.returns
-returns c = set_in_place

@@ -1,0 +1,5 @@
+pub mod Refused
+pub mod SecondFound
+pub mod SetInPlace
+pub mod SetKept
+pub mod SetWhole

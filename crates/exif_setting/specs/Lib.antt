@@ -1,0 +1,13 @@
+pub mod Contained
+pub mod Edits
+pub mod Fields
+pub mod Growing
+pub mod InPlace
+pub mod OtherDates
+pub mod Pictures
+pub mod Second
+pub mod SecondExamples
+pub mod SetLaws
+pub mod Setting
+pub mod Shifting
+pub mod Thumbnails
