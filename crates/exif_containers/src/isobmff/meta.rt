@@ -10,6 +10,7 @@ ghost use Rattle.exif_containers.specs.GoingBack.{FindsMeta, PassesBody, TakesBo
 
 use super::at::{read_at, read_front_at};
 use exif_base::Source;
+use exif_inventory::boxes::box_header;
 use exif_isobmff::{Header, Kind, header_of, pass};
 use exif_types::Error;
 use std::alloc::Global;
@@ -29,7 +30,7 @@ fn read_header<R: Source>(source: &mut R, at: u64, buf: &mut [u8; 16]) -> io::Re
     let Some(n) = read_front_at(source, at, &mut buf[..8])? else {
         return Ok(None);
     };
-    if n < 8 || buf[..4] != [0, 0, 0, 1] {
+    if n < 8 || box_header(&buf[..8]).is_some() {
         return Ok(Some(n));
     }
     let Some(next) = at.checked_add(8) else {
