@@ -84,6 +84,15 @@ says "and its other name" "mexaldor: 1 file has another name (a hard link), unde
 check "which holds the old file" cmp files/whole.jpg work/second.jpg
 gives "a quiet run" 0 "$mexaldor" scrub -q -i work/second.jpg
 check "says neither" test ! -s err
+cp files/whole.jpg work/IMG_20240501_123000.jpg
+cp files/whole.jpg work/2024-05-01.jpg
+cp files/whole.jpg work/DSC_0042.jpg
+gives "files whose names say a day are scrubbed" 0 "$mexaldor" scrub -i --keep-time work/IMG_20240501_123000.jpg work/2024-05-01.jpg work/DSC_0042.jpg
+says "their names are counted" "mexaldor: 2 files have a date in their names, which stay"
+says "and their times" "mexaldor: 3 files keep their times of modification (--keep-time), which may say when they were taken"
+cp files/whole.jpg work/2024-05-01.jpg
+gives "where locations alone go" 3 "$mexaldor" scrub -i --locations-only --keep-time work/2024-05-01.jpg
+check "a day is not what was asked for" sh -c '! grep -q "date in\|keep-time" err'
 cp files/whole.jpg work/third.jpg
 gives "set says neither" 0 "$mexaldor" set -i --backup work/third.jpg Orientation=1
 check "since it removes nothing" test ! -s err

@@ -9,3 +9,5 @@ pub mod Stamps
 pub mod Thumbnails
 pub mod Uses
 pub mod Requested
+pub mod Dated
+pub mod DatedExamples

@@ -5,6 +5,7 @@
 
 mod choosing;
 mod console;
+mod dated;
 mod inputs;
 mod lines;
 mod naming;
@@ -16,6 +17,7 @@ mod thumbnails;
 
 pub use choosing::{exif_if_any, exif_of, is_chosen};
 pub use console::Console;
+pub use dated::dated_count;
 pub use inputs::{Input, Use, found_in_folder, open, read, read_file};
 pub use lines::Lines;
 pub use naming::{NewName, name_by};

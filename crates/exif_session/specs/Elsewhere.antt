@@ -1,9 +1,11 @@
--- Where what was removed from files still is, in words.
+-- Where what was removed from files still is, or is said still, in words.
 use Rattle.std.specs.Prelude.{ℕ, ◌==◌, Bool, true, false, List, [], ◌∷◌, ◌++◌, codes, if◌then◌else◌}
 use Rattle.std.specs.Fmt.{decimal}
+use Rattle.exif_change.specs.declared.scrubbing.Removed.{Removed}
+use Rattle.exif_change.specs.declared.scrubbing.Removed.TheVariants as removed
 use Rattle.exif_files.specs.declared.changing.Keeping.{Keeping}
 use Rattle.exif_session.specs.declared.elsewhere.Elsewhere as it
-use Rattle.exif_session.specs.declared.elsewhere.Elsewhere.TheVariants.{Backups, Links}
+use Rattle.exif_session.specs.declared.elsewhere.Elsewhere.TheVariants.{Backups, Links, Names, Times}
 use Rattle.exif_session.specs.declared.request.Change as request
 use Rattle.exif_session.specs.declared.request.Change.TheVariants as change
 
@@ -11,6 +13,8 @@ use Rattle.exif_session.specs.declared.request.Change.TheVariants as change
 abbrev pub elsewhere_count : it.Elsewhere → ℕ
 elsewhere_count (Backups count) = count
 elsewhere_count (Links count) = count
+elsewhere_count (Names count) = count
+elsewhere_count (Times count) = count
 
 -- so many backups
 abbrev pub backups_text : ℕ → List ℕ
@@ -26,17 +30,43 @@ links_text count =
     else decimal count
     ++ codes " files have other names (hard links), under which what was removed stays"
 
+-- so many files whose names say a day
+abbrev pub names_text : ℕ → List ℕ
+names_text count =
+    if count == 1 then codes "1 file has a date in its name, which stays" else
+    decimal count ++ codes " files have a date in their names, which stay"
+
+-- so many files that keep their times
+abbrev pub times_text : ℕ → List ℕ
+times_text count =
+    if count == 1
+    then codes "1 file keeps its time of modification (--keep-time), which may say when it was taken"
+    else decimal count ++ codes
+    " files keep their times of modification (--keep-time), which may say when they were taken"
+
 abbrev pub elsewhere_text : it.Elsewhere → List ℕ
 elsewhere_text (Backups count) = backups_text count
 elsewhere_text (Links count) = links_text count
+elsewhere_text (Names count) = names_text count
+elsewhere_text (Times count) = times_text count
 
--- backups, if old files are kept
-abbrev pub kept_count : Bool → ℕ → ℕ
-kept_count true changed = changed
-kept_count false changed = 0
+-- so many of those that were changed, if something holds of each
+abbrev pub count_if : Bool → ℕ → ℕ
+count_if true changed = changed
+count_if false changed = 0
 
--- where what a change has removed is
-abbrev pub removed_elsewhere : request.Change → Keeping → ℕ → ℕ → List it.Elsewhere
-removed_elsewhere (change.Scrub removed color) keeping changed linked =
-    Backups (kept_count keeping.backup changed) ∷ Links linked ∷ []
-removed_elsewhere other keeping changed linked = Backups 0 ∷ Links 0 ∷ []
+-- what says a day still: where locations alone were erased, that was not asked for
+abbrev pub dated_elsewhere : Removed → Keeping → ℕ → ℕ → List it.Elsewhere
+dated_elsewhere (removed.Gps unread) keeping changed dated = Names 0 ∷ Times 0 ∷ []
+dated_elsewhere removed.Metadata keeping changed dated =
+    Names dated ∷ Times (count_if keeping.times changed) ∷ []
+dated_elsewhere removed.AllButOrientation keeping changed dated =
+    Names dated ∷ Times (count_if keeping.times changed) ∷ []
+
+-- where what a change has removed is: in backups, if old files are kept, and under other names
+abbrev pub removed_elsewhere : request.Change → Keeping → ℕ → ℕ → ℕ → List it.Elsewhere
+removed_elsewhere (change.Scrub what color) keeping changed linked dated =
+    Backups (count_if keeping.backup changed) ∷ Links linked
+    ∷ dated_elsewhere what keeping changed dated
+removed_elsewhere other keeping changed linked dated =
+    Backups 0 ∷ Links 0 ∷ Names 0 ∷ Times 0 ∷ []

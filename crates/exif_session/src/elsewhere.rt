@@ -1,20 +1,25 @@
-//! Where what was removed from files still is, in words.
+//! Where what was removed from files still is, or is said still, in words.
 
 ghost use Rattle.std.specs.Prelude.{◌≡◌, Some};
 ghost use Rattle.std.specs.Fmt.{WritesOnOk};
-ghost use Rattle.exif_session.specs.Elsewhere.{backups_text, elsewhere_count, links_text, removed_elsewhere};
+ghost use Rattle.exif_session.specs.Elsewhere.{backups_text, count_if, elsewhere_count, links_text, names_text, removed_elsewhere, times_text};
 
 use crate::request::Change;
+use exif_change::Removed;
 use exif_files::Keeping;
 use std::fmt;
 
-/// Files that hold what a run has removed from others.
+/// What holds or says what a run has removed.
 #[derive(Clone, Copy, Debug)]
 pub enum Elsewhere {
     /// So many backups of them.
     Backups(u64),
     /// Other names of so many of them.
     Links(u64),
+    /// So many names of files that say a day.
+    Names(u64),
+    /// So many files that keep their times.
+    Times(u64),
 }
 
 impl Elsewhere {
@@ -23,7 +28,10 @@ impl Elsewhere {
         ensures { result ≡ elsewhere_count self }
     {
         match self {
-            Elsewhere::Backups(count) | Elsewhere::Links(count) => count,
+            Elsewhere::Backups(count)
+            | Elsewhere::Links(count)
+            | Elsewhere::Names(count)
+            | Elsewhere::Times(count) => count,
         }
     }
 }
@@ -53,6 +61,31 @@ fn write_links<W: fmt::Write>(f: &mut fmt::Formatter<W>, count: u64) -> fmt::Res
     }
 }
 
+// Writes how many names say a day.
+fn write_names<W: fmt::Write>(f: &mut fmt::Formatter<W>, count: u64) -> fmt::Result
+    ensures { WritesOnOk W.write_str_gives f.old result (names_text count) f.new }
+{
+    if count == 1 {
+        f.write_str("1 file has a date in its name, which stays")
+    } else {
+        write!(f, "{count} files have a date in their names, which stay")
+    }
+}
+
+// Writes how many files keep their times.
+fn write_times<W: fmt::Write>(f: &mut fmt::Formatter<W>, count: u64) -> fmt::Result
+    ensures { WritesOnOk W.write_str_gives f.old result (times_text count) f.new }
+{
+    if count == 1 {
+        f.write_str("1 file keeps its time of modification (--keep-time), which may say when it was taken")
+    } else {
+        write!(
+            f,
+            "{count} files keep their times of modification (--keep-time), which may say when they were taken"
+        )
+    }
+}
+
 impl fmt::Display for Elsewhere {
     ghost use Rattle.exif_session.specs.Elsewhere.{elsewhere_text};
 
@@ -62,23 +95,50 @@ impl fmt::Display for Elsewhere {
         match self {
             Elsewhere::Backups(count) => write_backups(f, *count),
             Elsewhere::Links(count) => write_links(f, *count),
+            Elsewhere::Names(count) => write_names(f, *count),
+            Elsewhere::Times(count) => write_times(f, *count),
         }
     }
 }
 
+// How many of the files that were changed are meant, if something holds of each.
+fn count_if(test: bool, changed: u64) -> u64
+    ensures { result ≡ count_if test changed }
+{
+    if test { changed } else { 0 }
+}
+
 /// Where what a change has removed is: in the backups of so many files that were changed, if the
-/// old ones are kept, and under other names of so many.
+/// old ones are kept, and under other names of so many. Where all metadata were removed, the names
+/// of so many files still say a day, and so do the times of those that keep them.
 pub fn removed_elsewhere(
     change: &Change<'_>,
     keeping: Keeping,
     changed: u64,
     linked: u64,
-) -> [Elsewhere; 2]
-    ensures { result ≡ removed_elsewhere change.now keeping changed linked }
+    dated: u64,
+) -> [Elsewhere; 4]
+    ensures { result ≡ removed_elsewhere change.now keeping changed linked dated }
 {
-    if !matches!(change, Change::Scrub(..)) {
-        return [Elsewhere::Backups(0), Elsewhere::Links(0)];
-    }
-    let backups = if keeping.backup { changed } else { 0 };
-    [Elsewhere::Backups(backups), Elsewhere::Links(linked)]
+    let Change::Scrub(removed, _) = change else {
+        return [
+            Elsewhere::Backups(0),
+            Elsewhere::Links(0),
+            Elsewhere::Names(0),
+            Elsewhere::Times(0),
+        ];
+    };
+    let backups = count_if(keeping.backup, changed);
+    let (names, times) = match removed {
+        Removed::Metadata | Removed::AllButOrientation => {
+            (dated, count_if(keeping.times, changed))
+        }
+        Removed::Gps(_) => (0, 0),
+    };
+    [
+        Elsewhere::Backups(backups),
+        Elsewhere::Links(linked),
+        Elsewhere::Names(names),
+        Elsewhere::Times(times),
+    ]
 }

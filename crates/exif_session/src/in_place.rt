@@ -24,7 +24,7 @@ use exif_decisions::{Counts, Escaped, Outcome};
 use exif_files::{
     Failure, HostFiles, Keeping, Report, Reporter, WriteError, change_all, folder_of,
 };
-use exif_inputs::{Console, absolute_by};
+use exif_inputs::{Console, absolute_by, dated_count};
 use std::alloc::AllocError;
 use std::fmt::{self, Display};
 use std::fs;
@@ -55,6 +55,7 @@ pub fn change_in_place<W: Sink, E: Sink>(
         keys,
         linked,
     } = Plan::gather(session)?;
+    let dated = dated_count(paths.as_slice());
     let rt = session.rt;
     let before = session.pending.counts.done;
     let mut messages = Messages {
@@ -69,7 +70,7 @@ pub fn change_in_place<W: Sink, E: Sink>(
     let changed = session.pending.counts.done.saturating_sub(before);
     say_elsewhere(
         session,
-        &removed_elsewhere(change, keeping, changed, linked),
+        &removed_elsewhere(change, keeping, changed, linked, dated),
     )
 }
 
