@@ -11,7 +11,7 @@ use Rattle.exif_edit_base.specs.Walked.{entry_of}
 use Rattle.exif_edit_base.specs.declared.error.Error.TheVariants as error
 use Rattle.exif_edit_base.specs.declared.patch.Patch.{Patch}
 use Rattle.exif_edit_base.proofs.LeftSteps.{left_fault}
-use Rattle.exif_edit.proofs.EraseSteps.{erase_fault}
+use Rattle.exif_edit.proofs.EraseSteps.{erase_refused}
 use Rattle.exif_locations.specs.declared.unread.Unread.{Unread}
 use Rattle.exif_data_locations.specs.Erasing.{entry_limit, fields_erased, gps_erased, gps_refused, is_followed, is_none_left, noted_if, own_erased, read_erased}
 use Rattle.exif_data_locations.specs.Locations.{data_erased}
@@ -36,7 +36,7 @@ gps_by bytes x = elim (x >>= λ patches. Ok (patched patches bytes)) [
 gps_stay : (bytes : List ℕ) (fault : Fault) → reading bytes ≡ Err fault
     → gps_erased bytes ≡ (bytes, NotChanged ∷ [])
 gps_stay bytes fault h =
-    ap (gps_by bytes) (erase_fault (stop.Fault fault) bytes (error.Header fault) h refl)
+    ap (gps_by bytes) (erase_refused bytes (wrong_header fault) (ap of_data h))
 
 fields_stay : (unread : Unread) (bytes : List ℕ) (whys : List Reason) (fault : Fault)
     → reading bytes ≡ Err fault → fields_erased unread (bytes, whys) ≡ (bytes, whys)
