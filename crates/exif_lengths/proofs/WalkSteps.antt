@@ -1,7 +1,8 @@
 -- A walk over a part, piece after piece.
-use Rattle.std.proofs.Common.{◌≡◌, ◌<◌, ◌≤◌, ◌+◌, ◌-◌, ◌==◌, ℕ, zero, suc, Bool, true, false, cond, List, [], ◌∷◌, ◌++◌, length, drop, All, refl, ap, sym, ◌∙◌, subst, arith, length-drop}
+use Rattle.std.proofs.Common.{◌≡◌, ◌<◌, ◌≤◌, ◌+◌, ◌-◌, ◌==◌, ℕ, zero, suc, Bool, true, false, cond, List, [], ◌∷◌, ◌++◌, length, drop, All, refl, ap, sym, ◌∙◌, subst, take, arith, length-drop, length-take}
+use Rattle.std.proofs.lemmas.Bool.Decides.{nat_tests}
 use Rattle.std.proofs.lemmas.List.Elements.{All-append, All-cons, All-nil}
-use Rattle.exif_inventory.specs.Promises.{EndsIn}
+use Rattle.exif_inventory.specs.Promises.{AreInOrder, EndsIn}
 use Rattle.exif_inventory.specs.declared.kind.Kind.TheVariants as kind
 use Rattle.exif_inventory.specs.declared.part.Part.{Part}
 use Rattle.exif_lengths.specs.Formats.{step_at}
@@ -79,11 +80,40 @@ ends_by : (b : Bool) (picture : ℕ) (found : Found) (step : Step)
 ends_by true picture found step = omega arith
 ends_by false picture found step = omega arith
 
+-- ---- the order of the parts
+
+-- one part more
+pub behind_ordered : (at : ℕ) (parts : List Part) (part : Part) → AreInOrder at parts part.offset → AreInOrder at (parts ++ part ∷ []) (part.offset + part.len)
+behind_ordered at [] part h = (sym h, omega arith)
+behind_ordered at (p ∷ parts) part h = (h.0, behind_ordered (at + p.len) parts part h.1)
+
+pub ordered_to : (parts : List Part) (m n : ℕ) → m ≡ n → AreInOrder 0 parts m → AreInOrder 0 parts n
+ordered_to parts m n e h = subst (λ (k : ℕ). AreInOrder 0 parts k) e h
+
+no_bytes : (n : ℕ) → (n == 0) ≡ true → n ≡ 0
+no_bytes n e = grind (arith, nat_tests)
+
+run_by : (b : Bool) (len picture from : ℕ) (parts : List Part) → (len == 0) ≡ b → AreInOrder 0 parts from
+    → AreInOrder 0 (cond b parts (parts ++ part_at kind.Picture picture from len ∷ [])) (from + len)
+run_by true len picture from parts e h = let none : len ≡ 0 = no_bytes len e in ordered_to parts from (from + len) (omega arith) h
+run_by false len picture from parts e h = behind_ordered 0 parts (part_at kind.Picture picture from len) h
+
+pub closed_ordered : (picture : ℕ) (found : Found) → AreInOrder 0 found.parts found.from → AreInOrder 0 (closed picture found) (found.from + found.len)
+closed_ordered picture found h = run_by (found.len == 0) found.len picture found.from found.parts refl h
+
+ordered_by : (b : Bool) (picture : ℕ) (found : Found) (step : Step) → AreInOrder 0 found.parts found.from
+    → let next = cond b (longer found step) (apart picture found step) in AreInOrder 0 next.parts next.from
+ordered_by true picture found step h = h
+ordered_by false picture found step h =
+    behind_ordered 0 (closed picture found) (part_at kind.Unknown picture (found.from + found.len) step.len) (closed_ordered picture found h)
+
 -- ---- a walk that is under way
 
 pub record Splits (format : Format) (picture n : ℕ) (all : List ℕ) (start : Found) (bytes : List ℕ) (found : Found) : Type 0 where
   pub same : split (length all) format picture all start ≡ split (length bytes) format picture bytes found
-  pub ends : found.from + found.len + length bytes ≤ n
+  pub ends : found.from + found.len + length bytes ≡ start.from + start.len + length all
+  pub within : found.from + found.len + length bytes ≤ n
+  pub order : AreInOrder 0 found.parts found.from
   pub inside : All (EndsIn n) found.parts
 
 one_on : (format : Format) (picture n : ℕ) (all : List ℕ) (start : Found) (bytes : List ℕ) (found : Found)
@@ -93,11 +123,14 @@ one_on : (format : Format) (picture n : ℕ) (all : List ℕ) (start : Found) (b
 one_on format picture n all start bytes found s some positive within =
     let step = step_at format found.scanning bytes in
     let short : length (drop step.len bytes) ≡ length bytes - step.len = length-drop step.len bytes in
-    let before : found.from + found.len + length bytes ≤ n = s.ends in
+    let before : found.from + found.len + length bytes ≡ start.from + start.len + length all = s.ends in
+    let most : found.from + found.len + length bytes ≤ n = s.within in
     let far : (stepped picture found step).from + (stepped picture found step).len ≡ found.from + found.len + step.len = ends_by step.fits picture found step in
     record {
       same = s.same ∙ split_on format picture bytes found some positive;
       ends = omega arith;
+      within = omega arith;
+      order = ordered_by step.fits picture found step s.order;
       inside = stepped_by step.fits n picture found step s.inside (omega arith);
     }
 
@@ -114,10 +147,63 @@ splits_on format picture n all start bytes found step rest next s some p positiv
 -- the end of a walk
 pub splits_over : (format : Format) (picture n : ℕ) (all : List ℕ) (start : Found) (bytes : List ℕ) (found : Found) (out : List Part)
     → Splits format picture n all start bytes found → length bytes ≡ 0 → out ≡ closed picture found
-    → (out ≡ closed picture (split (length all) format picture all start)) × All (EndsIn n) out
+    → (out ≡ closed picture (split (length all) format picture all start)) × AreInOrder 0 out (start.from + start.len + length all) × All (EndsIn n) out
 splits_over format picture n all start bytes found out s none_left o =
-    let before : found.from + found.len + length bytes ≤ n = s.ends in
+    let before : found.from + found.len + length bytes ≡ start.from + start.len + length all = s.ends in
+    let most : found.from + found.len + length bytes ≤ n = s.within in
+    let order : AreInOrder 0 (closed picture found) (start.from + start.len + length all) =
+    ordered_to (closed picture found) (found.from + found.len) _ (omega arith) (closed_ordered picture found s.order) in
     let inside : All (EndsIn n) (closed picture found) = closed_inside n picture found s.inside (omega arith) in (
       o ∙ sym (ap (closed picture) (s.same ∙ split_over (length bytes) format picture bytes found none_left)),
+      subst (λ (ps : List Part). AreInOrder 0 ps (start.from + start.len + length all)) (sym o) order,
       subst (λ (ps : List Part). All (EndsIn n) ps) (sym o) inside,
     )
+
+-- so many bytes from an offset on, in a file that has them
+pub taken_len : (at n : ℕ) (file : List ℕ) → at + n ≤ length file → at + 0 + length (take n (drop at file)) ≡ at + n
+taken_len at n file h = grind (arith, length-take, length-drop)
+
+-- ---- parts, one after the other
+
+-- parts in order up to where the next ones begin, which are in order up to the end
+pub record Orders (n : ℕ) (all parts : List Part) : Type 0 where
+  pub at : ℕ
+  pub so_far : AreInOrder 0 all at
+  pub left : AreInOrder at parts n
+
+not_before : (at : ℕ) (parts : List Part) (n : ℕ) → AreInOrder at parts n → at ≤ n
+not_before at [] n h = omega arith
+not_before at (p ∷ parts) n h = let l = not_before (at + p.len) parts n h.1 in omega arith
+
+ends_of : (n : ℕ) (all : List Part) (p : Part) (parts : List Part) → Orders n all (p ∷ parts) → p.offset + p.len ≤ n
+ends_of n all p parts o =
+    let same : p.offset ≡ o.at = o.left.0 in
+    let l : o.at + p.len ≤ n = not_before (o.at + p.len) parts n o.left.1 in omega arith
+
+order_of : (n : ℕ) (all : List Part) (p : Part) (parts : List Part) → Orders n all (p ∷ parts) → AreInOrder 0 all p.offset
+order_of n all p parts o = ordered_to all o.at p.offset (sym o.left.0) o.so_far
+
+next_of : (n : ℕ) (all more : List Part) (p : Part) (parts : List Part) → Orders n all (p ∷ parts) → AreInOrder 0 more (p.offset + p.len) → Orders n more parts
+next_of n all more p parts o h = record {
+  at = p.offset + p.len;
+  so_far = h;
+  left = subst (λ (k : ℕ). AreInOrder (k + p.len) parts n) (sym o.left.0) o.left.1;
+}
+
+-- the part at an index
+pub part_ends : (n : ℕ) (all parts : List Part) (i : ℕ) (p : Part) (more : List Part) → drop i parts ≡ p ∷ more → Orders n all (drop i parts) → p.offset + p.len ≤ n
+part_ends n all parts i p more e o = ends_of n all p more (subst (λ (ps : List Part). Orders n all ps) e o)
+
+pub part_order : (n : ℕ) (all parts : List Part) (i : ℕ) (p : Part) (more : List Part) → drop i parts ≡ p ∷ more → Orders n all (drop i parts) → AreInOrder 0 all p.offset
+part_order n all parts i p more e o = order_of n all p more (subst (λ (ps : List Part). Orders n all ps) e o)
+
+pub part_next : (n : ℕ) (all next parts : List Part) (i : ℕ) (p : Part) (more : List Part) → drop i parts ≡ p ∷ more → Orders n all (drop i parts)
+    → AreInOrder 0 next (p.offset + p.len) → Orders n next more
+part_next n all next parts i p more e o h = next_of n all next p more (subst (λ (ps : List Part). Orders n all ps) e o) h
+
+over : (n : ℕ) (all : List Part) → Orders n all [] → AreInOrder 0 all n
+over n all o = ordered_to all o.at n o.left o.so_far
+
+-- the end of the parts
+pub parts_over : (n : ℕ) (all parts : List Part) → parts ≡ [] → Orders n all parts → AreInOrder 0 all n
+parts_over n all parts e o = over n all (subst (λ (ps : List Part). Orders n all ps) e o)

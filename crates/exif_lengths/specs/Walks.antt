@@ -83,11 +83,10 @@ split_from format picture at bytes parts =
     closed picture (split (length bytes) format picture bytes
     (record { parts = parts; from = at; len = 0; scanning = false }))
 
--- those of the data of a part, behind others
+-- those of a part, behind others
 abbrev pub split_part : Format → List ℕ → Part → List Part → List Part
 split_part format file part parts =
-    split_from format part.picture part.data_offset
-    (take part.data_len (drop part.data_offset file)) parts
+    split_from format part.picture part.offset (take part.len (drop part.offset file)) parts
 
 -- a part, behind others: only one of the picture is split
 abbrev pub by_kind : Kind → Format → List ℕ → Part → List Part → List Part

@@ -2,7 +2,7 @@
 
 ghost use Rattle.std.specs.Prelude.{◌≡◌, ◌+◌, ◌<◌, ◌≤◌, ◌^◌, All, IfOk, IfSome, OnOk, length};
 ghost use Rattle.std.specs.Option.{option_map};
-ghost use Rattle.exif_inventory.specs.Promises.{EndsIn};
+ghost use Rattle.exif_inventory.specs.Promises.{AreInOrder, EndsIn};
 ghost use Rattle.exif_lengths.specs.Walks.{by_kind, measured, measured_inventory, part_at, split_part, stepped, walk_view, with_run};
 
 use crate::format::{Format, format_of, step_at};
@@ -70,18 +70,20 @@ fn split_part(
     file: &[u8],
     part: Part,
 ) -> Result<Vec<Part>, AllocError>
-    requires ends { EndsIn (length file.now) part }
+    requires ends { part.offset + part.len ≤ length file.now }
+    requires order { AreInOrder 0 parts.items part.offset }
     requires inside { All (EndsIn (length file.now)) parts.items }
     ensures value { IfOk result (λ all. all.items ≡ split_part format file.now part parts.items) }
+    ensures order { IfOk result (λ all. AreInOrder 0 all.items (part.offset + part.len)) }
     ensures inside { IfOk result (λ all. All (EndsIn (length file.now)) all.items) }
 {
     let mut walk = Walk {
         parts,
-        from: part.data_offset,
+        from: part.offset,
         len: 0,
         scanning: false,
     };
-    let mut rest = &file[part.data_offset..][..part.data_len];
+    let mut rest = &file[part.offset..][..part.len];
     while !rest.is_empty() {
         let step = step_at(format, walk.scanning, rest);
         add(&mut walk, part.picture, step)?;
@@ -98,16 +100,20 @@ fn split_part(
 }
 
 // Adds a part to others.
+#[tactic(auto, using(crate::proofs::WalkSteps::behind_ordered))]
 fn add_part(
     parts: Vec<Part>,
     format: Format,
     file: &[u8],
     part: Part,
 ) -> Result<Vec<Part>, AllocError>
-    requires ends { EndsIn (length file.now) part }
+    requires ends { part.offset + part.len ≤ length file.now }
+    requires data { EndsIn (length file.now) part }
+    requires order { AreInOrder 0 parts.items part.offset }
     requires inside { All (EndsIn (length file.now)) parts.items }
     ensures value { IfOk result (λ all. all.items
         ≡ by_kind part.kind format file.now part parts.items) }
+    ensures order { IfOk result (λ all. AreInOrder 0 all.items (part.offset + part.len)) }
     ensures inside { IfOk result (λ all. All (EndsIn (length file.now)) all.items) }
 {
     let mut parts = parts;
@@ -127,8 +133,10 @@ fn measured(
     file: &[u8],
     parts: &[Part],
 ) -> Result<Vec<Part>, AllocError>
-    requires { All (EndsIn (length file.now)) parts.now }
+    requires order { AreInOrder 0 parts.now (length file.now) }
+    requires inside { All (EndsIn (length file.now)) parts.now }
     ensures value { IfOk result (λ all. all.items ≡ measured format file.now parts.now) }
+    ensures covers { IfOk result (λ all. AreInOrder 0 all.items (length file.now)) }
     ensures inside { IfOk result (λ all. All (EndsIn (length file.now)) all.items) }
 {
     let mut all = Vec::new(alloc);
@@ -140,13 +148,16 @@ fn measured(
 
 /// The parts of a JPEG, WebP, PNG or JPEG XL file, as [`exif_inventory::inventory`] lists them, but
 /// that a piece of the picture with other bytes than its standard gives it is a part of its own,
-/// whose kind is not known: a marker, a segment, a chunk, a box, or bytes between segments. `None`
-/// for a file of another format.
+/// whose kind is not known: a marker, a segment, a chunk, a box, or bytes between segments. They too
+/// are in the order of their bytes, and together they are the file. `None` for a file of another
+/// format.
 ///
 /// It takes memory for the two lists.
 pub fn inventory(alloc: Global, file: &[u8]) -> Result<Option<Vec<Part>>, AllocError>
     ensures answer { IfOk result (λ parts. option_map (λ v. v.items) parts
         ≡ measured_inventory file.now) }
+    ensures covers { IfOk result (λ found. IfSome found
+        (λ parts. AreInOrder 0 parts.items (length file.now))) }
     ensures inside { IfOk result (λ found. IfSome found
         (λ parts. All (EndsIn (length file.now)) parts.items)) }
 {

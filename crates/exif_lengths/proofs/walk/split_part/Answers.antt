@@ -1,8 +1,8 @@
-use Rattle.std.proofs.Common.{arith, length, rules}
+use Rattle.std.proofs.Common.{◌+◌, arith, length, rules}
 use Rattle.std.proofs.lemmas.Bool.Decides.{nat_tests}
 use Rattle.std.proofs.lemmas.List.{take_rest}
 use Rattle.exif_lengths.specs.Walks.{walk_view}
-use Rattle.exif_lengths.proofs.WalkSteps.{splits_on, splits_over}
+use Rattle.exif_lengths.proofs.WalkSteps.{ordered_to, splits_on, splits_over, taken_len}
 use Rattle.exif_lengths.proofs.walk.split_part.Goals as goal
 
 pub loop-rest-preserved : goal.loop-rest-preserved
@@ -14,4 +14,8 @@ loop-rest-preserved c =
 pub returns : goal.returns
 returns c =
     let p = splits_over c.args.format c.args.part.picture (length c.args.file.now) _ _ c.loop-rest.rest.now (walk_view c.loop-rest.walk) c.close.new.parts.items c.loop-rest.invariant (grind (arith, nat_tests)) (search rules) in
-    record { value = p.0; inside = p.1 }
+    record {
+      value = p.0;
+      order = ordered_to c.close.new.parts.items _ (c.args.part.offset + c.args.part.len) (taken_len c.args.part.offset c.args.part.len c.args.file.now c.requires.ends) p.1;
+      inside = p.2;
+    }

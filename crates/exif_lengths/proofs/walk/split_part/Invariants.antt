@@ -7,8 +7,8 @@ use Rattle.exif_lengths.proofs.walk.split_part.Given as goal
 abbrev pub invariant-loop-rest : goal.invariant-loop-rest
 invariant-loop-rest l =
     Splits l.fn.format l.fn.part.picture (length l.file)
-    (take l.fn.part.data_len (drop l.fn.part.data_offset l.file))
-    (record { parts = l.fn.parts.items; from = l.fn.part.data_offset; len = 0; scanning = false })
+    (take l.fn.part.len (drop l.fn.part.offset l.file))
+    (record { parts = l.fn.parts.items; from = l.fn.part.offset; len = 0; scanning = false })
     l.rest (walk_view l.walk)
 
 abbrev pub decreases-loop-rest : goal.decreases-loop-rest
