@@ -1,0 +1,9 @@
+pub mod Tables
+pub mod Jpeg
+pub mod Png
+pub mod Index
+pub mod Jxl
+pub mod Webp
+pub mod Formats
+pub mod Walks
+pub mod Examples
