@@ -9,7 +9,7 @@ ghost use Rattle.exif_pictures.specs.JxlChanges.{jxl_data, jxl_emptied, rewritte
 
 use crate::contained::whole;
 use exif::Error;
-use exif_change::{Changed, Refusal};
+use exif_change::{Changed, Refusal, with_found};
 use exif_formats::jxl::is_codestream;
 use exif_parts::rewrite_jxl;
 use exif_segments::Remove;
@@ -40,7 +40,8 @@ pub fn rewritten(
     }
 }
 
-/// A JPEG XL file without its metadata. A codestream without a container has none.
+/// A JPEG XL file without its metadata, with what is found in it then that does not belong there. A
+/// codestream without a container has none.
 pub fn emptied(alloc: Global, file: Vec<u8>) -> Result<Changed, Refusal>
     ensures { Answers change_of result (jxl_emptied file.items) }
 {
@@ -48,5 +49,5 @@ pub fn emptied(alloc: Global, file: Vec<u8>) -> Result<Changed, Refusal>
         return Ok(whole(alloc, file));
     }
     let new = rewritten(alloc, file.as_slice(), None, Remove::Metadata)?;
-    Ok(whole(alloc, new))
+    with_found(alloc, false, whole(alloc, new))
 }
