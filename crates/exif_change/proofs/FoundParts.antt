@@ -1,8 +1,8 @@
 -- What is found in a new file: where nothing was left, nothing was found; and what was found was left.
 use Rattle.std.proofs.Common.{◌≡◌, ◌∙◌, ℕ, Bool, List, [], ◌∷◌, ◌++◌, map, All, Contains, slice_index_or, Option, Some, None, Result, Ok, Err, refl, sym, ap, subst}
 use Rattle.std.proofs.lemmas.List.Elements.{Contains-append_right}
-use Rattle.exif_inventory.specs.Walks.{inventory}
 use Rattle.exif_inventory.specs.declared.part.Part.{Part}
+use Rattle.exif_lengths.specs.Walks.{measured_inventory}
 use Rattle.exif_change.specs.Changed.{Change, Undone, still_there, whole}
 use Rattle.exif_change.specs.Found.{foreign, found_in, IsAnswered, with_found, with_parts}
 use Rattle.exif_change.specs.Refusals.{Reason}
@@ -35,7 +35,7 @@ with_found_whole put (Err why) new e = absurd (no_ok why (whole new) e)
 with_found_whole put (Ok change) new e = with_parts_whole (found_in put change.file) (Ok change) new e
 
 -- each part of the new file that does not belong there is among what was left
-pub found_answered : (put : Bool) (made : Result Change Reason) (change : Change) (parts : List Part) → with_found put made ≡ Ok change → inventory change.file ≡ Some parts
+pub found_answered : (put : Bool) (made : Result Change Reason) (change : Change) (parts : List Part) → with_found put made ≡ Ok change → measured_inventory change.file ≡ Some parts
     → All (IsAnswered put change.undone) parts
 found_answered put (Err why) change parts e is = absurd (no_ok why change e)
 found_answered put (Ok old) change parts e is = λ k d below no.
@@ -56,4 +56,4 @@ found_answered put (Ok old) change parts e is = λ k d below no.
     found_is : found_in put old.file ≡ foreign put parts []
     found_is =
         ap (λ (o : Option (List Part)). elim o as (λ _. List Part) [ Some parts ↦ foreign put parts [] | None ↦ [] ])
-        (ap inventory file_is ∙ is)
+        (ap measured_inventory file_is ∙ is)

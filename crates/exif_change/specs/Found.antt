@@ -1,9 +1,9 @@
 -- Metadata that are found in a new file: what is none of its picture's is answered.
 use Rattle.std.specs.Prelude.{◌≡◌, ℕ, ◌==◌, ◌&&◌, Bool, true, false, List, [], ◌∷◌, ◌++◌, map, Contains, Option, None, Some, Result, Ok, Err, if◌then◌else◌}
-use Rattle.exif_inventory.specs.Walks.{inventory}
 use Rattle.exif_inventory.specs.declared.kind.Kind.{Kind}
 use Rattle.exif_inventory.specs.declared.kind.Kind.TheVariants as kind
 use Rattle.exif_inventory.specs.declared.part.Part.{Part}
+use Rattle.exif_lengths.specs.Walks.{measured_inventory}
 use Rattle.exif_change.specs.Changed.{Change, Undone, still_there}
 use Rattle.exif_change.specs.Refusals.{Reason}
 
@@ -26,9 +26,11 @@ foreign put [] found = found
 foreign put (part ∷ parts) found =
     foreign put parts (if belongs put part then found else found ++ part ∷ [])
 
--- those of a JPEG or WebP file
+-- those of a JPEG, WebP, PNG or JPEG XL file; a piece of the picture whose length is not the one
+-- that its standard gives is a part that is not known
 abbrev pub found_in : Bool → List ℕ → List Part
-found_in put file = elim (inventory file) [ Some parts ↦ foreign put parts [] | None ↦ [] ]
+found_in put file =
+    elim (measured_inventory file) [ Some parts ↦ foreign put parts [] | None ↦ [] ]
 
 -- a change that left these parts too, which may hold metadata
 abbrev pub with_parts : List Part → Result Change Reason → Result Change Reason
@@ -38,7 +40,7 @@ with_parts parts (Ok change) = Ok (record {
 })
 with_parts parts (Err why) = Err why
 
--- a JPEG or WebP file that was rewritten, with what is found in it that does not belong there
+-- a file that was rewritten, with what is found in it that does not belong there
 abbrev pub with_found : Bool → Result Change Reason → Result Change Reason
 with_found put (Ok change) = with_parts (found_in put change.file) (Ok change)
 with_found put (Err why) = Err why

@@ -7,7 +7,8 @@ ghost use Rattle.exif_change.specs.Refusals.{Answers};
 
 use crate::Refusal;
 use crate::changed::{Changed, Residual};
-use exif_inventory::{Kind, Part, inventory};
+use exif_inventory::{Kind, Part};
+use exif_lengths::inventory;
 use std::alloc::{AllocError, Global};
 
 /// Whether a part belongs to a file without metadata: it is what the first picture needs, or Exif
@@ -36,7 +37,8 @@ fn foreign(alloc: Global, put: bool, parts: &[Part]) -> Result<Vec<Part>, AllocE
     Ok(found)
 }
 
-// Those of a JPEG or WebP file.
+// Those of a JPEG, WebP, PNG or JPEG XL file; a piece of the picture whose length is not the one
+// that its standard gives is one of them.
 fn found_in(alloc: Global, put: bool, file: &[u8]) -> Result<Vec<Part>, AllocError>
     ensures { IfOk result (λ found. found.items ≡ found_in put file.now) }
 {
@@ -61,7 +63,9 @@ pub(crate) fn with_parts(
     Ok(Changed { file, left })
 }
 
-/// A JPEG or WebP file that was rewritten, with what is found in it that does not belong there.
+/// A JPEG, WebP, PNG or JPEG XL file that was rewritten, with what is found in it that does not
+/// belong there: parts that are not the picture's, and pieces of it whose length is not the one
+/// that their standard gives.
 pub fn with_found(alloc: Global, put: bool, changed: Changed) -> Result<Changed, Refusal>
     ensures { Answers change_of result (with_found put (Ok (change_of changed))) }
 {

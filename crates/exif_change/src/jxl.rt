@@ -9,6 +9,7 @@ ghost use Rattle.exif_change.specs.JxlChanges.{jxl_data, jxl_emptied, rewritten}
 
 use crate::Refusal;
 use crate::changed::Changed;
+use crate::found::with_found;
 use exif::Error;
 use exif_formats::jxl::is_codestream;
 use exif_parts::rewrite_jxl;
@@ -40,7 +41,8 @@ pub fn rewritten(
     }
 }
 
-/// A JPEG XL file without its metadata. A codestream without a container has none.
+/// A JPEG XL file without its metadata, with what is found in it then that does not belong there. A
+/// codestream without a container has none.
 pub(crate) fn emptied(alloc: Global, file: Vec<u8>) -> Result<Changed, Refusal>
     ensures { Answers change_of result (jxl_emptied file.items) }
 {
@@ -48,5 +50,5 @@ pub(crate) fn emptied(alloc: Global, file: Vec<u8>) -> Result<Changed, Refusal>
         return Ok(Changed::whole(alloc, file));
     }
     let new = rewritten(alloc, file.as_slice(), None, Remove::Metadata)?;
-    Ok(Changed::whole(alloc, new))
+    with_found(alloc, false, Changed::whole(alloc, new))
 }

@@ -5,10 +5,10 @@ use Rattle.exif_containers.specs.Container.{format_in}
 use Rattle.exif_containers.specs.declared.container.Format.{Format}
 use Rattle.exif_containers.specs.declared.container.Format.TheVariants.{Tiff, Jpeg, Heif, WebP}
 use Rattle.exif_segments.specs.declared.remove.Remove.TheVariants as remove
-use Rattle.exif_inventory.specs.Walks.{inventory}
 use Rattle.exif_inventory.specs.declared.kind.Kind.{Kind}
 use Rattle.exif_inventory.specs.declared.kind.Kind.TheVariants as kind
 use Rattle.exif_inventory.specs.declared.part.Part.{Part}
+use Rattle.exif_lengths.specs.Walks.{measured_inventory}
 use Rattle.exif_change.specs.Changed.{Change, Undone}
 use Rattle.exif_change.specs.Changes.{kept, scrubbed}
 use Rattle.exif_change.specs.Found.{IsAnswered, is_wanted, with_found}
@@ -63,7 +63,7 @@ weaker false undone part a = λ no. a (fewer (part.picture == 0) part.kind no)
 -- by what was kept
 by_kept : (format : Format) (file : List ℕ) (k : Result (Option (List ℕ)) Reason) (change : Change) (parts : List Part)
     → (k >>= λ put. with_found (is_some put) (as_read (rewritten format remove.Metadata put file))) ≡ Ok change
-    → inventory change.file ≡ Some parts → All (IsAnswered true change.undone) parts
+    → measured_inventory change.file ≡ Some parts → All (IsAnswered true change.undone) parts
 by_kept format file (Err why) change parts e is = absurd (no_ok why change e)
 by_kept format file (Ok put) change parts e is = λ k d below.
     weaker (is_some put) change.undone _ (found_answered (is_some put) (as_read (rewritten format remove.Metadata put file)) change parts e is k d below)

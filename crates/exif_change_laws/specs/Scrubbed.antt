@@ -10,8 +10,8 @@ use Rattle.exif_containers.specs.declared.container.Format.{Format}
 use Rattle.exif_containers.specs.declared.container.Format.TheVariants as format
 use Rattle.exif_layout.specs.Image.{image}
 use Rattle.exif_layout.specs.Rewriting.{pushed_all}
-use Rattle.exif_inventory.specs.Walks.{inventory}
 use Rattle.exif_inventory.specs.declared.part.Part.{Part}
+use Rattle.exif_lengths.specs.Walks.{measured_inventory}
 use Rattle.exif_change.specs.Changed.{Change}
 use Rattle.exif_change.specs.Changes.{scrubbed}
 use Rattle.exif_change.specs.Found.{IsAnswered}
@@ -54,8 +54,9 @@ abbrev pub IsScrubbedTo : Removed → List ℕ → Change → Type 0
 IsScrubbedTo removed file change =
     (is_written_again (format_in file) ≡ true) × (scrubbed removed file ≡ Ok change)
 
--- each part of the new file is one that belongs there, or was answered as left
+-- each part of the new file is one that belongs there, or was answered as left; a piece of the
+-- picture whose length is not the one that its standard gives does not belong there
 abbrev pub AllAnswered : Bool → Change → Type 0
 AllAnswered put change =
-    (parts : List Part) → inventory change.file ≡ Some parts
+    (parts : List Part) → measured_inventory change.file ≡ Some parts
     → All (IsAnswered put change.undone) parts

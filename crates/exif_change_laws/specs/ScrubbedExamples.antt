@@ -11,6 +11,7 @@ use Rattle.exif_layout.specs.Refused.{group_fault, write_fault}
 use Rattle.exif_layout.specs.Slots.{exif_slots, gps_slots, interop_slots, tiff_slots}
 use Rattle.exif_inventory.specs.JpegPieces.{between_piece, stream_piece}
 use Rattle.exif_inventory.specs.Walks.{walked}
+use Rattle.exif_lengths.specs.Walks.{split}
 use Rattle.exif_parts.specs.Jpeg.{filtered}
 use Rattle.exif_change.specs.Changed.{whole}
 use Rattle.exif_change.specs.Changes.{scrubbed}
@@ -18,9 +19,9 @@ use Rattle.exif_change.specs.Reading.{data_contents, file_contents}
 use Rattle.exif_change.specs.declared.scrubbing.Removed.TheVariants.{AllButOrientation, Metadata}
 use Rattle.exif_change_laws.specs.Scrubbed.{orientation_alone}
 
--- what ends a stream: a scan with one byte
+-- what ends a stream: a scan of one component, with one byte
 abbrev scan : List ℕ
-scan = 255 ∷ 218 ∷ 0 ∷ 2 ∷ 7 ∷ 255 ∷ 217 ∷ []
+scan = 255 ∷ 218 ∷ 0 ∷ 8 ∷ 1 ∷ 1 ∷ 0 ∷ 0 ∷ 63 ∷ 0 ∷ 7 ∷ 255 ∷ 217 ∷ []
 
 -- a stream with a description, the orientation 6 and a comment
 abbrev picture : List ℕ
@@ -46,7 +47,7 @@ abbrev bare : List ℕ
 bare = 255 ∷ 216 ∷ scan
 
 scrubs : scrubbed Metadata picture ≡ Ok (whole bare)
-unfolding filtered walked between_piece stream_piece container_answer answer_as format_in
+unfolding filtered walked split between_piece stream_piece container_answer answer_as format_in
 scrubs = refl
 
 nothing_read : file_contents bare ≡ Err no_exif_in_jpeg
@@ -54,7 +55,7 @@ unfolding container_answer answer_as format_in
 nothing_read = refl
 
 keeps : scrubbed AllButOrientation picture ≡ Ok (whole upright)
-unfolding filtered walked between_piece stream_piece container_answer answer_as format_in data_contents raw_answer ordered_trace image draft_parts tiff_slots exif_slots gps_slots interop_slots tiff_offset exif_offset gps_offset interop_offset tiff_values exif_values gps_values interop_values strips_offset tiles_offset jpeg_offset draft_end write_fault group_fault
+unfolding filtered walked split between_piece stream_piece container_answer answer_as format_in data_contents raw_answer ordered_trace image draft_parts tiff_slots exif_slots gps_slots interop_slots tiff_offset exif_offset gps_offset interop_offset tiff_values exif_values gps_values interop_values strips_offset tiles_offset jpeg_offset draft_end write_fault group_fault
 keeps = refl
 
 told : file_contents upright ≡ Ok (orientation_alone Big 6)

@@ -1,8 +1,8 @@
 -- The parts of files in which locations are erased.
 use Rattle.std.specs.Prelude.{ℕ, ◌||◌, Bool, List, [], ◌∷◌, length, take, codes, Option, Some, None, if◌then◌else◌}
 use Rattle.std.specs.Str.{bytes_eq}
-use Rattle.exif_inventory.specs.Walks.{inventory}
 use Rattle.exif_inventory_heif.specs.Inventories.{heif_inventory}
+use Rattle.exif_lengths.specs.Walks.{measured_inventory}
 use Rattle.exif_inventory.specs.declared.kind.Kind.TheVariants as kind
 use Rattle.exif_inventory.specs.declared.part.Part.{Part}
 
@@ -26,7 +26,9 @@ abbrev pub parts_or : List ℕ → Option (List Part) → Option (List Part)
 parts_or file (Some parts) = Some parts
 parts_or file None = heif_inventory file
 
--- the parts of a file, if its format is known
+-- the parts of a file, if its format is known; pieces of the picture whose length is not the one
+-- that their standard gives are parts that are not known
 abbrev pub parts_of : List ℕ → Option (List Part)
 parts_of file =
-    if is_tiff file then Some (tiff_part (length file) ∷ []) else parts_or file (inventory file)
+    if is_tiff file then Some (tiff_part (length file) ∷ [])
+    else parts_or file (measured_inventory file)

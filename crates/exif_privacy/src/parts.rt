@@ -5,8 +5,9 @@ ghost use Rattle.std.specs.Option.{option_map};
 ghost use Rattle.exif_inventory.specs.Promises.{EndsIn};
 ghost use Rattle.exif_privacy.specs.Files.{is_tiff, parts_of, tiff_part};
 
-use exif_inventory::{Kind, Part, inventory};
+use exif_inventory::{Kind, Part};
 use exif_inventory_heif as heif;
+use exif_lengths::inventory;
 use std::alloc::{AllocError, Global};
 
 // Whether a file is TIFF data.
@@ -33,8 +34,9 @@ fn tiff_parts(alloc: Global, len: usize) -> Result<Vec<Part>, AllocError>
     Ok(parts)
 }
 
-/// The parts of a JPEG, WebP, HEIF or AVIF file in the order of their bytes, and that of a TIFF
-/// file: all of it is Exif data. `None` for a file of another format.
+/// The parts of a JPEG, WebP, PNG, JPEG XL, HEIF or AVIF file in the order of their bytes, and that
+/// of a TIFF file: all of it is Exif data. A piece of the picture that has another length than its
+/// standard gives is a part that is not known. `None` for a file of another format.
 pub fn parts_of(alloc: Global, file: &[u8]) -> Result<Option<Vec<Part>>, AllocError>
     ensures value { IfOk result (λ parts. option_map (λ v. v.items) parts ≡ parts_of file.now) }
     ensures inside { IfOk result (λ found. IfSome found
