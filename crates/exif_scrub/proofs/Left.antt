@@ -9,11 +9,11 @@ use Rattle.exif_inventory_heif.specs.Spans.{data_within, part_kind, part_of}
 use Rattle.exif_inventory_heif.specs.declared.role.Role.{Role}
 use Rattle.exif_inventory_heif.specs.declared.role.Role.TheVariants.{ItemInfo, Known, Meta, Movie}
 use Rattle.exif_inventory_heif.specs.declared.span.Span.{Span}
-use Rattle.exif_scrub.specs.HeifBlanks.{blanked, listed_box, role_blank, span_blank, unknown_box}
+use Rattle.exif_blanks.specs.HeifBlanks.{blanked, listed_box, role_blank, span_blank, unknown_box}
 use Rattle.exif_scrub.specs.HeifPromises.{AllKnown, IsBlank, IsKnown, empty_of}
 use Rattle.exif_scrub.specs.HeifScrubbing.{bytes_of, is_other, is_settled, left_of, left_parts, scrubbed, settled, stays}
-use Rattle.exif_scrub.specs.declared.heif.blank.Blank.{Blank}
-use Rattle.exif_scrub.specs.declared.heif.blank.Blank.TheVariants.{Nothing, Packet, Zeros, Free}
+use Rattle.exif_blanks.specs.declared.blank.Blank.{Blank}
+use Rattle.exif_blanks.specs.declared.blank.Blank.TheVariants.{Nothing, Packet, Zeros, Free}
 use Rattle.exif_scrub.proofs.HeifTwice.{both_true, scrubbed_settled, settled_bytes, settled_is}
 
 -- what is to be shown of a part, of whose bytes nothing else becomes

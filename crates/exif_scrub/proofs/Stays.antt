@@ -8,7 +8,7 @@ use Rattle.exif_inventory_heif.specs.Spans.{part_kind}
 use Rattle.exif_inventory_heif.specs.declared.role.Role.{Role}
 use Rattle.exif_inventory_heif.specs.declared.role.Role.TheVariants.{ItemInfo, Known, Meta}
 use Rattle.exif_inventory_heif.specs.declared.span.Span.{Span}
-use Rattle.exif_scrub.specs.HeifBlanks.{blanked, role_blank}
+use Rattle.exif_blanks.specs.HeifBlanks.{blanked, role_blank}
 use Rattle.exif_scrub.specs.HeifPromises.{Becomes, KeepsPicture, PictureStays, picture_bytes}
 use Rattle.exif_scrub.specs.HeifScrubbing.{bytes_of, emptied, emptied_by, if_emptied, scrubbed, settled, spans_emptied}
 use Rattle.exif_scrub.proofs.LayoutOrder.{heif_ordered}

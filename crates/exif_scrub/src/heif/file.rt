@@ -5,9 +5,9 @@ ghost use Rattle.exif_inventory_heif.specs.Inventories.{heif_layout};
 ghost use Rattle.exif_scrub.specs.HeifPromises.{AllBecome};
 ghost use Rattle.exif_scrub.specs.HeifScrubbing.{answered, emptied, scrubbed, span_emptied};
 
-use crate::heif::blank::{overwrite, span_blank};
 use crate::heif::fault::Fault;
 use crate::heif::settled::parts_left;
+use exif_blanks::blank::{overwrite, span_blank};
 use exif_inventory::Part;
 use exif_inventory_heif::{Layout, Span, layout};
 use std::alloc::{AllocError, Global};
