@@ -7,6 +7,7 @@ use Rattle.exif_inventory.specs.BoxHeaders.{box_header, head_of}
 use Rattle.exif_inventory_heif.specs.Numbers.{number}
 use Rattle.exif_inventory_heif.specs.Carving.{carve_one, carved, cut_one, exif_content, item_span}
 use Rattle.exif_inventory_heif.specs.Extents.{entries_in, entry_head, entry_step, extent_at, extents_of, is_known, wide_entries, widths_of}
+use Rattle.exif_inventory_heif.specs.Gaps.{gaps_from}
 use Rattle.exif_inventory_heif.specs.Inventories.{layout_of}
 use Rattle.exif_inventory_heif.specs.Items.{items_in, items_of, type_kind}
 use Rattle.exif_inventory_heif.specs.Loops.{repeated}
@@ -62,22 +63,22 @@ location n offset len =
     0 ∷ n ∷ 0 ∷ 0 ∷ 0 ∷ 1 ∷ 0 ∷ 0 ∷ 0 ∷ offset ∷ 0 ∷ 0 ∷ 0 ∷ len ∷ []
 
 -- a picture of 3 bytes, an Exif item of 20, an XMP packet of 2, a byte of no item, and a box
-abbrev three_items : List ℕ → List ℕ → List ℕ → List ℕ
-three_items exif xmp box =
+abbrev three_items : List ℕ → List ℕ → ℕ → List ℕ → List ℕ
+three_items exif xmp unused box =
     brands ++ 0 ∷ 0 ∷ 0 ∷ 167 ∷ codes "meta" ++ 0 ∷ 0 ∷ 0 ∷ 0
     ∷ 0 ∷ 0 ∷ 0 ∷ 97 ∷ codes "iinf" ++ 0 ∷ 0 ∷ 0 ∷ 0 ∷ 0 ∷ 3 ∷ entry 1 (codes "hvc1")
     ++ entry 2 (codes "Exif") ++ xmp_entry 3
     ++ 0 ∷ 0 ∷ 0 ∷ 58 ∷ codes "iloc" ++ 0 ∷ 0 ∷ 0 ∷ 0 ∷ 0x44 ∷ 0 ∷ 0 ∷ 3 ∷ location 1 195 3
     ++ location 2 198 20 ++ location 3 218 2
-    ++ 0 ∷ 0 ∷ 0 ∷ 34 ∷ codes "mdat" ++ 1 ∷ 2 ∷ 3 ∷ exif ++ xmp ++ 8 ∷ box
+    ++ 0 ∷ 0 ∷ 0 ∷ 34 ∷ codes "mdat" ++ 1 ∷ 2 ∷ 3 ∷ exif ++ xmp ++ unused ∷ box
 
--- where the items are understood, the box becomes free space too, and nothing is left
-scrubbed_items : scrubbed (three_items (0 ∷ 0 ∷ 0 ∷ 0 ∷ replicate 16 7) (5 ∷ 6 ∷ [])
+-- where the items are understood, the byte becomes zero, the box free space too, and nothing is left
+scrubbed_items : scrubbed (three_items (0 ∷ 0 ∷ 0 ∷ 0 ∷ replicate 16 7) (5 ∷ 6 ∷ []) 8
     (0 ∷ 0 ∷ 0 ∷ 10 ∷ codes "udta" ++ 5 ∷ 6 ∷ []))
     ≡ Ok (
       three_items (0 ∷ 0 ∷ 0 ∷ 0 ∷ 0x4d ∷ 0x4d ∷ 0 ∷ 42 ∷ 0 ∷ 0 ∷ 0 ∷ 8 ∷ replicate 8 0)
-          (32 ∷ 32 ∷ []) (0 ∷ 0 ∷ 0 ∷ 10 ∷ codes "free" ++ 0 ∷ 0 ∷ []),
+          (32 ∷ 32 ∷ []) 0 (0 ∷ 0 ∷ 0 ∷ 10 ∷ codes "free" ++ 0 ∷ 0 ∷ []),
       Some [],
     )
-unfolding layout_of walked top_piece child_piece head_of box_header number items_of items_in repeated type_kind extents_of is_known widths_of wide_entries entries_in entry_step entry_head extent_at carved carve_one cut_one item_span exif_content blanked bared_from
+unfolding layout_of walked top_piece child_piece head_of box_header number items_of items_in repeated type_kind extents_of is_known widths_of wide_entries entries_in entry_step entry_head extent_at carved carve_one cut_one item_span exif_content gaps_from blanked bared_from
 scrubbed_items = refl
