@@ -6,7 +6,7 @@ use Rattle.exif_inventory.specs.BoxHeaders.{box_header}
 use Rattle.exif_inventory.specs.declared.boxes.BoxHeader.{BoxHeader}
 use Rattle.exif_inventory.specs.declared.kind.Kind.TheVariants as kind
 use Rattle.exif_inventory_heif.specs.declared.role.Role.{Role}
-use Rattle.exif_inventory_heif.specs.declared.role.Role.TheVariants.{ItemInfo, Known, Meta}
+use Rattle.exif_inventory_heif.specs.declared.role.Role.TheVariants.{ItemInfo, ItemLocation, Known, Meta}
 use Rattle.exif_inventory_heif.specs.declared.span.Span.{Span}
 use Rattle.exif_blanks.specs.declared.blank.Blank.{Blank}
 use Rattle.exif_blanks.specs.declared.blank.Blank.TheVariants.{Nothing, Fields, Packet, Zeros, Free, Described}
@@ -99,6 +99,7 @@ role_blank judged (Known kind.Unknown) span = item_or_box span Zeros (unknown_bo
 role_blank judged (Known kind.ContentCredentials) span = Free
 role_blank judged Meta span = listed_box judged
 role_blank judged ItemInfo span = listed_box judged
+role_blank judged ItemLocation span = listed_box judged
 role_blank judged role span = Nothing
 
 -- what becomes of a span

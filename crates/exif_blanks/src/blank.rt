@@ -173,7 +173,7 @@ pub fn span_blank(judged: bool, span: Span) -> Blank
         Role::Known(Kind::Xmp) => item_or_box(span, Blank::Packet, Blank::Free),
         Role::Known(Kind::Unknown) => item_or_box(span, Blank::Zeros, unknown_box(judged)),
         Role::Known(Kind::ContentCredentials) => Blank::Free,
-        Role::Meta | Role::ItemInfo => listed_box(judged),
+        Role::Meta | Role::ItemInfo | Role::ItemLocation => listed_box(judged),
         _ => Blank::Nothing,
     }
 }

@@ -2,20 +2,21 @@
 
 ghost use Rattle.std.specs.Prelude.{◌≡◌, ◌<◌, ◌≤◌, length, IfSome};
 ghost use Rattle.exif_inventory.specs.BoxHeaders.{head_of};
-ghost use Rattle.exif_inventory_heif.specs.Items.{count_width, item_width};
-ghost use Rattle.exif_blanks.specs.HeifSteps.{box_by, box_step, channels_kept, entry_by, entry_step, fields_len, group_by, group_step, is_coding, is_color, is_group, is_property, is_relation, letter_step, list_by, list_step, name_step, named_entry, number_step, property_by, property_kept, property_step, wide_entry};
+ghost use Rattle.exif_inventory_heif.specs.Items.{count_width};
+ghost use Rattle.exif_blanks.specs.HeifSteps.{aux_kept, box_by, box_step, channels_kept, fields_len, full_content, group_by, group_kept, group_step, is_aux_type, is_coding, is_color, is_group, is_property, is_relation, list_by, list_step, number_step, property_by, property_kept, property_step};
 
-use crate::bytes::front_of;
+use crate::bytes::{front_of, long};
+use crate::config::{config_len, config_step};
+use crate::lists::{associations_listed, locations_listed, references_listed};
 use crate::steps::{Place, Step, front, whole};
 use exif_inventory::boxes::{Head, head_of, name_of};
+use exif_inventory_heif::text_len;
 
 // Whether a property says how a picture is coded.
 fn is_coding(name: &[u8]) -> bool
     ensures { result ≡ is_coding name.now }
 {
-    name == b"hvcC".as_slice()
-        || name == b"lhvC".as_slice()
-        || name == b"av1C".as_slice()
+    name == b"av1C".as_slice()
         || name == b"avcC".as_slice()
         || name == b"vvcC".as_slice()
         || name == b"evcC".as_slice()
@@ -43,8 +44,7 @@ fn is_color(name: &[u8]) -> bool
 fn is_relation(name: &[u8]) -> bool
     ensures { result ≡ is_relation name.now }
 {
-    name == b"auxC".as_slice()
-        || name == b"rref".as_slice()
+    name == b"rref".as_slice()
         || name == b"iscl".as_slice()
         || name == b"tols".as_slice()
         || name == b"oinf".as_slice()
@@ -107,6 +107,49 @@ fn channels_kept(bytes: &[u8], head: Head) -> usize
     }
 }
 
+// Whether a text is one of the types of an auxiliary picture that are known.
+fn is_aux_type(text: &[u8]) -> bool
+    ensures { result ≡ is_aux_type text.now }
+{
+    text == b"urn:mpeg:hevc:2015:auxid:1".as_slice()
+        || text == b"urn:mpeg:hevc:2015:auxid:2".as_slice()
+        || text == b"urn:mpeg:mpegB:cicp:systems:auxiliary:alpha".as_slice()
+        || text == b"urn:mpeg:mpegB:cicp:systems:auxiliary:depth".as_slice()
+        || text == b"urn:com:apple:photo:2018:aux:portraiteffectsmatte".as_slice()
+        || text == b"urn:com:apple:photo:2019:aux:semanticskinmatte".as_slice()
+        || text == b"urn:com:apple:photo:2019:aux:semantichairmatte".as_slice()
+        || text == b"urn:com:apple:photo:2019:aux:semanticteethmatte".as_slice()
+        || text == b"urn:com:apple:photo:2020:aux:semanticglassesmatte".as_slice()
+        || text == b"urn:com:apple:photo:2020:aux:semanticskymatte".as_slice()
+        || text == b"urn:com:apple:photo:2020:aux:hdrgainmap".as_slice()
+}
+
+// What a box holds behind its version and flags.
+fn full_content(bytes: &[u8], head: Head) -> &[u8]
+    requires front { head.front ≤ 16 }
+    requires within { head.len ≤ length bytes.now }
+    ensures value { result.now ≡ full_content bytes.now head }
+    ensures most { length result.now ≤ length bytes.now }
+{
+    let whole = &bytes[..head.len];
+    &whole[whole.len().min(head.front + 4)..]
+}
+
+// How many bytes stay of the type of an auxiliary picture.
+fn aux_kept(bytes: &[u8], head: Head) -> usize
+    requires front { head.front ≤ 16 }
+    requires within { head.len ≤ length bytes.now }
+    ensures { result ≡ aux_kept bytes.now head }
+{
+    let content = full_content(bytes, head);
+    let len = text_len(content);
+    if is_aux_type(&content[..len]) {
+        head.front + 5 + len
+    } else {
+        head.front + 4
+    }
+}
+
 // How many bytes of a property stay: all, its header and its fields, or its header alone.
 fn property_kept(bytes: &[u8], head: Head) -> usize
     requires least { 8 ≤ length bytes.now }
@@ -115,7 +158,9 @@ fn property_kept(bytes: &[u8], head: Head) -> usize
     ensures { result ≡ property_kept bytes.now head }
 {
     let name = name_of(bytes);
-    if name == b"pixi".as_slice() {
+    if name == b"auxC".as_slice() {
+        aux_kept(bytes, head)
+    } else if name == b"pixi".as_slice() {
         channels_kept(bytes, head)
     } else if is_property(name) {
         head.len
@@ -143,7 +188,7 @@ pub fn list_step(bytes: &[u8]) -> Step
         return whole(head.front, Place::Properties(head.len - head.front));
     }
     if name == b"ipma".as_slice() {
-        return whole(head.len, Place::Boxes);
+        return associations_listed(bytes, head);
     }
     front(head.front, head.len, Place::Boxes)
 }
@@ -155,9 +200,12 @@ fn property_in(space: usize, bytes: &[u8]) -> Step
     let Some(head) = head_of(bytes) else {
         return front(0, space, Place::Boxes);
     };
-    let kept = property_kept(bytes, head);
-    let next = Place::Properties(space.saturating_sub(head.len));
-    front(kept, head.len, next)
+    if config_len(name_of(bytes)) == 0 {
+        let next = Place::Properties(space.saturating_sub(head.len));
+        front(property_kept(bytes, head), head.len, next)
+    } else {
+        config_step(space, bytes, head)
+    }
 }
 
 /// The property at the front, if there is space for one, or the box behind all.
@@ -171,6 +219,20 @@ pub fn property_step(space: usize, bytes: &[u8]) -> Step
     }
 }
 
+// How many bytes of a group stay: of such a one its header, a version and flags, its number, a
+// count, and the numbers of so many items; of others the header alone.
+fn group_kept(bytes: &[u8], head: Head) -> usize
+    requires least { 8 ≤ length bytes.now }
+    requires front { head.front ≤ 16 }
+    requires within { head.len ≤ length bytes.now }
+    ensures { result ≡ group_kept bytes.now head }
+{
+    if !is_group(name_of(bytes)) || head.len < head.front + 12 {
+        return head.front;
+    }
+    head.front + 12 + 4 * long(&bytes[head.front + 8..]) as usize
+}
+
 /// The box at the front of groups. What is no box becomes zeros.
 pub fn group_step(bytes: &[u8]) -> Step
     ensures { result ≡ group_step bytes.now }
@@ -178,92 +240,7 @@ pub fn group_step(bytes: &[u8]) -> Step
     let Some(head) = head_of(bytes) else {
         return front(0, bytes.len(), Place::Rest);
     };
-    if is_group(name_of(bytes)) {
-        whole(head.len, Place::Groups)
-    } else {
-        front(head.front, head.len, Place::Groups)
-    }
-}
-
-// The entry of an item, up to its name, if it has one behind a number of this width.
-fn wide_entry(head: Head, width: usize) -> Step
-    requires front { head.front ≤ 16 }
-    requires width { width ≤ 4 }
-    ensures { result ≡ wide_entry head width }
-{
-    let end = head.front + width + 10;
-    if width == 0 || head.len < end {
-        whole(head.len, Place::Entries)
-    } else {
-        whole(end, Place::Name(head.len - end))
-    }
-}
-
-// How many bytes the number of an item takes in an entry of this version; 0 is not known.
-fn item_width(version: u8) -> usize
-    ensures value { result ≡ item_width version }
-    ensures most { result ≤ 4 }
-{
-    match version {
-        2 => 2,
-        3 => 4,
-        _ => 0,
-    }
-}
-
-// The same by its version, if it has one.
-fn named_entry(bytes: &[u8], head: Head) -> Step
-    requires front { head.front ≤ 16 }
-    requires within { head.len ≤ length bytes.now }
-    ensures { result ≡ named_entry bytes.now head }
-{
-    if head.front < head.len {
-        wide_entry(head, item_width(bytes[head.front]))
-    } else {
-        whole(head.len, Place::Entries)
-    }
-}
-
-/// The box at the front of the entries of items. What is no box becomes zeros.
-pub fn entry_step(bytes: &[u8]) -> Step
-    ensures { result ≡ entry_step bytes.now }
-{
-    let Some(head) = head_of(bytes) else {
-        return front(0, bytes.len(), Place::Rest);
-    };
-    if name_of(bytes) == b"infe".as_slice() {
-        named_entry(bytes, head)
-    } else {
-        front(head.front, head.len, Place::Entries)
-    }
-}
-
-// A byte of a name, which becomes a space. The zero that ends it stays, with what follows.
-fn letter_step(space: usize, b: u8) -> Step
-    requires { 0 < space }
-    ensures { result ≡ letter_step space b }
-{
-    if b == 0 {
-        return whole(space, Place::Entries);
-    }
-    Step {
-        len: 1,
-        kept: 0,
-        fill: b' ',
-        next: Place::Name(space - 1),
-    }
-}
-
-/// The byte at the front of a name, if there is space for one, or the entry behind it.
-pub fn name_step(space: usize, bytes: &[u8]) -> Step
-    requires { 0 < length bytes.now }
-    ensures { result ≡ name_step space bytes.now }
-{
-    if space == 0 {
-        entry_step(bytes)
-    } else {
-        letter_step(space, bytes[0])
-    }
+    front(group_kept(bytes, head), head.len, Place::Groups)
 }
 
 // How many bytes the count of the items takes.
@@ -305,6 +282,10 @@ pub fn box_step(bytes: &[u8]) -> Step
         number_step(bytes, head, Place::Entries)
     } else if name == b"pitm".as_slice() {
         number_step(bytes, head, Place::Zeros)
+    } else if name == b"iref".as_slice() {
+        references_listed(bytes, head)
+    } else if name == b"iloc".as_slice() {
+        locations_listed(bytes, head)
     } else if name == b"hdlr".as_slice() {
         whole(head.front + 12, Place::Zeros)
     } else {

@@ -5,5 +5,8 @@
 pub mod blank;
 mod boxes;
 pub mod bytes;
+mod config;
+mod entries;
 mod jpeg;
+mod lists;
 pub mod steps;

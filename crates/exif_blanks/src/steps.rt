@@ -6,9 +6,13 @@ ghost use Rattle.exif_blanks.specs.HeifBlanks.{all_are};
 ghost use Rattle.exif_blanks.specs.HeifSteps.{front, whole};
 ghost use Rattle.exif_blanks.specs.Steps.{bared, fitted, fitted_len, place_step, step_of};
 
-use crate::boxes::{box_step, entry_step, group_step, list_step, name_step, property_step};
+use crate::boxes::{box_step, group_step, list_step, property_step};
 use crate::bytes::{all_are, lesser};
+use crate::config::units_step;
+use crate::entries::{entry_step, name_step, text_step};
 use crate::jpeg::{start_step, stream_step};
+use crate::lists::{associations_step, locations_step, references_step};
+use exif_inventory_heif::Widths;
 
 /// What the next bytes are.
 #[derive(Clone, Copy)]
@@ -23,16 +27,70 @@ pub enum Place {
     Boxes,
     /// Properties: so much space is left for them.
     Properties(usize),
+    /// The configuration of a decoder, behind its fields.
+    Units(ListedUnits),
     /// Groups of items.
     Groups,
     /// Entries of items.
     Entries,
-    /// The name of an item, and what follows it: so much space is left for them.
-    Name(usize),
+    /// The name of an item, and the texts that follow it.
+    Name(EntryTexts),
+    /// The texts behind the name of an item.
+    Texts(EntryTexts),
+    /// Which properties items have.
+    Associations(AssociationList),
+    /// What items refer to, and whether their numbers take four bytes.
+    References(bool),
+    /// Where items' data are.
+    Locations(LocationList),
     /// Bytes that become zeros.
     Zeros,
     /// Bytes that stay.
     Rest,
+}
+
+/// The units of a bitstream in the configuration of a decoder.
+#[derive(Clone, Copy)]
+pub struct ListedUnits {
+    /// How many lists of them are left behind this one.
+    pub lists: usize,
+    /// How many units of this list are left.
+    pub left: usize,
+    /// How much space is left for all.
+    pub space: usize,
+    /// How much is left behind them for properties.
+    pub behind: usize,
+}
+
+/// The texts in the entry of an item.
+#[derive(Clone, Copy)]
+pub struct EntryTexts {
+    /// How many are left behind its name.
+    pub texts: usize,
+    /// How much space is left for them.
+    pub space: usize,
+}
+
+/// Entries of properties that items have.
+#[derive(Clone, Copy)]
+pub struct AssociationList {
+    /// How many are left.
+    pub left: usize,
+    /// Whether the number of an item takes four bytes, and not two.
+    pub wide: bool,
+    /// Whether that of a property takes two bytes, and not one.
+    pub large: bool,
+    /// How much space is left.
+    pub space: usize,
+}
+
+/// Entries of items' data.
+#[derive(Clone, Copy)]
+pub struct LocationList {
+    /// How many are left.
+    pub left: usize,
+    /// How many bytes their fields take.
+    pub widths: Widths,
 }
 
 /// What becomes of the bytes at the front.
@@ -78,9 +136,14 @@ fn place_step(place: Place, bytes: &[u8]) -> Step
         Place::Box => box_step(bytes),
         Place::Boxes => list_step(bytes),
         Place::Properties(space) => property_step(space, bytes),
+        Place::Units(units) => units_step(units, bytes),
         Place::Groups => group_step(bytes),
         Place::Entries => entry_step(bytes),
-        Place::Name(space) => name_step(space, bytes),
+        Place::Name(entry) => name_step(entry, bytes),
+        Place::Texts(entry) => text_step(entry, bytes),
+        Place::Associations(found) => associations_step(found, bytes),
+        Place::References(wide) => references_step(wide, bytes),
+        Place::Locations(found) => locations_step(found, bytes),
         Place::Zeros => front(0, bytes.len(), Place::Rest),
         Place::Rest => whole(bytes.len(), Place::Rest),
     }

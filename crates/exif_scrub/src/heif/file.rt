@@ -43,10 +43,16 @@ pub fn empty(alloc: Global, file: &mut [u8]) -> Result<bool, AllocError>
 /// they may hold some, in their order: `None` for a file of another format, which stays as it is.
 ///
 /// The data of Exif and XMP items become empty data of their kind. Those of items that are not
-/// known become zeros, and so do bytes that no item has in boxes with the items' data. Boxes with an XMP packet or content credentials, and boxes that are not known,
-/// become free space of the same size. The names of the handler and of items become zeros and
-/// spaces. Of properties those stay that describe a picture, with their fields, and of groups of
-/// items those that show alternatives or two eyes; the contents of the others become zeros.
+/// known become zeros, and so do bytes that no item has in boxes with the items' data. Boxes with
+/// an XMP packet or content credentials, and boxes that are not known, become free space of the
+/// same size. The names of the handler and of items become zeros and spaces.
+///
+/// Of properties those stay that describe a picture, with their fields, and of groups of items
+/// those that show alternatives or two eyes; the contents of the others become zeros. So do bytes
+/// behind the fields of a group, and behind the entries of the lists of items, of their data,
+/// properties and references; the type of an auxiliary picture, if it is not a known one, and what
+/// follows it; and the units in the configuration of a HEVC decoder that are no parameters, but for
+/// their headers.
 ///
 /// No byte moves, and of all other parts none changes: tracks (`moov`), what is cut off, and, where
 /// the items are not understood, boxes that are not known and those with the items' data stay, and
