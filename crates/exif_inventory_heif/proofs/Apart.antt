@@ -1,9 +1,10 @@
 -- Where the items are understood, the picture shares no byte with data of an item that is none.
 use Rattle.std.proofs.Common.{◌≡◌, ◌≤◌, ◌⊎◌, ℕ, suc, Bool, true, false, cond, not, ◌&&◌, ◌||◌, List, [], ◌∷◌, ◌++◌, length, All, Option, Some, None, refl, ap, sym, ◌∙◌, subst, inl, inr, arith}
-use Rattle.std.proofs.lemmas.List.Elements.{All-append, All-cons, All-nil}
+use Rattle.std.proofs.lemmas.List.Elements.{All-append, All-cons, All-nil, All-weaker}
 use Rattle.exif_inventory.specs.declared.kind.Kind.{Kind}
 use Rattle.exif_inventory.specs.declared.kind.Kind.TheVariants as kind
 use Rattle.exif_inventory_heif.specs.Carving.{before, behind, carve_each, carve_one, carved, cut, cut_one, exif_content, exif_span, holds, is_alone, is_held, is_picture, item_span, kind_span, pieces, some_span}
+use Rattle.exif_inventory_heif.specs.Gaps.{gaps_cut, gaps_of}
 use Rattle.exif_inventory_heif.specs.Inventories.{extents_in, settled}
 use Rattle.exif_inventory_heif.specs.Promises.{Avoids, IsApart, PictureIsApart}
 use Rattle.exif_inventory_heif.specs.Spans.{has, part_kind}
@@ -11,7 +12,7 @@ use Rattle.exif_inventory_heif.specs.Walks.{AreSpans, spans_of}
 use Rattle.exif_inventory_heif.specs.declared.extents.Extent.{Extent}
 use Rattle.exif_inventory_heif.specs.declared.role.Role.TheVariants.{Movie}
 use Rattle.exif_inventory_heif.specs.declared.span.Span.{Span}
-use Rattle.exif_inventory_heif.proofs.SpanOrder.{Held, held_of, one_carved}
+use Rattle.exif_inventory_heif.proofs.SpanOrder.{Held, carved_ordered, held_of, one_carved}
 
 clash : (b : Bool) → b ≡ true → b ≡ false → ⊥
 clash b p q = cc
@@ -222,6 +223,35 @@ carved_clear : (file : List ℕ) (es : List Extent) (spans : List Span) (judged 
 unfolding carved
 carved_clear file es spans judged end o h = carved_if _ file es spans judged end o h
 
+-- ---- what no extent has
+
+kept_if_carved : (t : Bool) (file : List ℕ) (gaps : List Extent) (spans : List Span) (judged : Bool) (z : Extent) (end : ℕ) → AreSpans 0 spans end → Clear z spans
+    → let made : List Span × Bool = cond t (spans, false) (carve_each file gaps gaps (spans, judged)) in Clear z made.0
+kept_if_carved true file gaps spans judged z end o a = a
+kept_if_carved false file gaps spans judged z end o a = each_kept file gaps gaps z (spans, judged) end o a
+
+carved_kept : (file : List ℕ) (gaps : List Extent) (spans : List Span) (judged : Bool) (z : Extent) (end : ℕ) → AreSpans 0 spans end → Clear z spans
+    → Clear z (carved file gaps (spans, judged)).0
+unfolding carved
+carved_kept file gaps spans judged z end o a = kept_if_carved _ file gaps spans judged z end o a
+
+gaps_if : (t : Bool) (file : List ℕ) (gaps : List Extent) (spans : List Span) (judged : Bool) (z : Extent) (end : ℕ) → AreSpans 0 spans end → Clear z spans
+    → let made : List Span × Bool = cond t (spans, false) (carved file gaps (spans, judged)) in Clear z made.0
+gaps_if true file gaps spans judged z end o a = a
+gaps_if false file gaps spans judged z end o a = carved_kept file gaps spans judged z end o a
+
+gaps_kept : (file : List ℕ) (es : List Extent) (c : List Span × Bool) (z : Extent) (end : ℕ) → AreSpans 0 c.0 end → Clear z c.0
+    → Clear z (gaps_cut file es c).0
+gaps_kept file es (spans, judged) z end o a = gaps_if _ file (gaps_of file es spans) spans judged z end o a
+
+judged_first : (judged many : Bool) (file : List ℕ) (gaps : List Extent) (spans : List Span)
+    → (let made : List Span × Bool = cond (not judged || many) (spans, false) (carved file gaps (spans, judged)) in made.1 ≡ true) → judged ≡ true
+judged_first true many file gaps spans h = refl
+judged_first false many file gaps spans h = absurd (clash false h refl)
+
+gaps_judged : (file : List ℕ) (es : List Extent) (c : List Span × Bool) → (gaps_cut file es c).1 ≡ true → c.1 ≡ true
+gaps_judged file es (spans, judged) h = judged_first judged _ file (gaps_of file es spans) spans h
+
 same_list : (xs ys : List Extent) → ◌≡◌ {A = Option (List Extent)} (Some xs) (Some ys) → xs ≡ ys
 same_list xs ys e = cc
 
@@ -229,8 +259,12 @@ settled_clear : (file : List ℕ) (found : List Span) (o : Option (List Extent))
     → (settled file found o).1 ≡ true → o ≡ Some es → All (IsClear (settled file found o).0) es
 settled_clear file found None es end o h e = absurd (clash false h refl)
 settled_clear file found (Some xs) es end o h e =
+    let judged = not (has Movie found) in
+    let c = carved file xs (found, judged) in
+    let clear = carved_clear file xs found judged end o (gaps_judged file xs c h) in
+    let ordered = carved_ordered file xs found judged end o in
     subst (λ (ys : List Extent). All (IsClear (settled file found (Some xs)).0) ys) (same_list xs es e)
-    (carved_clear file xs found (not (has Movie found)) end o h)
+    (All-weaker (IsClear c.0) (IsClear (gaps_cut file xs c).0) (λ z a. λ other. gaps_kept file xs c z end ordered (a other)) xs clear)
 
 -- the layout of a file is so
 pub picture_apart : (file : List ℕ) (found spans : List Span) (judged : Bool) → found ≡ spans_of file → AreSpans 0 found (length file)

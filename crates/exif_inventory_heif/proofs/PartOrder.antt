@@ -4,6 +4,7 @@ use Rattle.std.proofs.lemmas.List.Elements.{All-cons, All-nil}
 use Rattle.exif_inventory.proofs.WalkSteps.{all_inside}
 use Rattle.exif_inventory.specs.Promises.{AreInOrder, EndsIn, IsWithin}
 use Rattle.exif_inventory.specs.declared.part.Part.{Part}
+use Rattle.exif_inventory_heif.specs.Carving.{carved}
 use Rattle.exif_inventory_heif.specs.Inventories.{extents_in, judged_parts, layout_of, parts_of, settled}
 use Rattle.exif_inventory_heif.specs.Spans.{data_from, data_within, has, part_of}
 use Rattle.exif_inventory_heif.specs.Walks.{AreSpans, IsInside}
@@ -11,7 +12,7 @@ use Rattle.exif_inventory_heif.specs.declared.extents.Extent.{Extent}
 use Rattle.exif_inventory_heif.specs.declared.role.Role.{Role}
 use Rattle.exif_inventory_heif.specs.declared.role.Role.TheVariants.{Known, Movie}
 use Rattle.exif_inventory_heif.specs.declared.span.Span.{Span}
-use Rattle.exif_inventory_heif.proofs.SpanOrder.{carved_ordered}
+use Rattle.exif_inventory_heif.proofs.SpanOrder.{carved_ordered, gaps_ordered}
 
 -- the data of a span are in it
 data_in : (role : Role) (span : Span) → span.from ≤ span.content → span.content ≤ span.end
@@ -44,7 +45,8 @@ parts_ordered judged from (s ∷ spans) end h =
 settled_ordered : (file : List ℕ) (spans : List Span) (extents : Option (List Extent)) (end : ℕ) → AreSpans 0 spans end
     → AreSpans 0 (settled file spans extents).0 end
 settled_ordered file spans None end h = h
-settled_ordered file spans (Some extents) end h = carved_ordered file extents spans (not (has Movie spans)) end h
+settled_ordered file spans (Some extents) end h =
+    gaps_ordered file extents (carved file extents (spans, not (has Movie spans))) end (carved_ordered file extents spans (not (has Movie spans)) end h)
 
 -- the layout of a file is in order
 pub layout_ordered : (file : List ℕ) (found spans : List Span) (judged : Bool) → AreSpans 0 found (length file)

@@ -5,6 +5,7 @@ use Rattle.exif_inventory.specs.declared.kind.Kind.{Kind}
 use Rattle.exif_inventory.specs.declared.kind.Kind.TheVariants as kind
 use Rattle.exif_inventory_heif.specs.Numbers.{number}
 use Rattle.exif_inventory_heif.specs.Carving.{before, behind, carve_each, carve_one, carved, cut, cut_one, exif_content, exif_span, holds, is_held, item_span, kind_span, offset_behind, pieces, some_span}
+use Rattle.exif_inventory_heif.specs.Gaps.{gaps_cut, gaps_of}
 use Rattle.exif_inventory_heif.specs.Walks.{AreSpans}
 use Rattle.exif_inventory_heif.specs.declared.extents.Extent.{Extent}
 use Rattle.exif_inventory_heif.specs.declared.span.Span.{Span}
@@ -134,3 +135,13 @@ pub carved_ordered : (file : List ℕ) (extents : List Extent) (spans : List Spa
     → AreSpans 0 (carved file extents (spans, judged)).0 end
 unfolding carved
 carved_ordered file extents spans judged end h = carved_if _ file extents spans judged end h
+
+gaps_if : (t : Bool) (file : List ℕ) (gaps : List Extent) (spans : List Span) (judged : Bool) (end : ℕ) → AreSpans 0 spans end
+    → let made : List Span × Bool = cond t (spans, false) (carved file gaps (spans, judged)) in AreSpans 0 made.0 end
+gaps_if true file gaps spans judged end h = h
+gaps_if false file gaps spans judged end h = carved_ordered file gaps spans judged end h
+
+-- the same where what no extent has is cut out
+pub gaps_ordered : (file : List ℕ) (extents : List Extent) (c : List Span × Bool) (end : ℕ) → AreSpans 0 c.0 end
+    → AreSpans 0 (gaps_cut file extents c).0 end
+gaps_ordered file extents (spans, judged) end h = gaps_if _ file (gaps_of file extents spans) spans judged end h

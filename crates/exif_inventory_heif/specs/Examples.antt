@@ -7,11 +7,13 @@ use Rattle.exif_inventory.specs.BoxHeaders.{box_header, head_of}
 use Rattle.exif_inventory_heif.specs.Numbers.{number}
 use Rattle.exif_inventory_heif.specs.Carving.{carve_one, carved, cut_one, exif_content, item_span}
 use Rattle.exif_inventory_heif.specs.Extents.{entries_in, entry_head, entry_step, extent_at, extents_of, is_known, wide_entries, widths_of}
+use Rattle.exif_inventory_heif.specs.Gaps.{gaps_from}
 use Rattle.exif_inventory_heif.specs.Inventories.{heif_inventory, layout_of}
 use Rattle.exif_inventory_heif.specs.Items.{items_in, items_of, type_kind}
 use Rattle.exif_inventory_heif.specs.Loops.{repeated}
 use Rattle.exif_inventory_heif.specs.Pieces.{child_piece, top_piece}
 use Rattle.exif_inventory_heif.specs.Walks.{walked}
+use Rattle.exif_inventory_heif.specs.declared.extents.Extent.{Extent}
 
 -- a part from an offset on, with its data
 abbrev part : Kind → ℕ → ℕ → ℕ → ℕ → Part
@@ -47,7 +49,8 @@ abbrev location : ℕ → ℕ → ℕ → List ℕ
 location n offset len =
     0 ∷ n ∷ 0 ∷ 0 ∷ 0 ∷ 1 ∷ 0 ∷ 0 ∷ 0 ∷ offset ∷ 0 ∷ 0 ∷ 0 ∷ len ∷ []
 
--- a picture of 3 bytes, Exif data of 6 with 2 of TIFF data, and an XMP packet of 2
+-- a picture of 3 bytes, Exif data of 6 with 2 of TIFF data, an XMP packet of 2, and a byte that no
+-- item has
 abbrev three_items : List ℕ
 three_items =
     brands
@@ -62,9 +65,22 @@ parts_of_three : heif_inventory three_items
     ≡ Some (part kind.Picture 0 20 0 20 ∷ part kind.Picture 20 12 20 12
     ∷ part kind.Picture 32 97 32 97 ∷ part kind.Picture 129 58 129 58
     ∷ part kind.Picture 187 11 187 11 ∷ part kind.Exif 198 6 202 2 ∷ part kind.Xmp 204 2 204 2
-    ∷ part kind.Picture 206 1 206 1 ∷ [])
-unfolding layout_of walked top_piece child_piece head_of box_header number items_of items_in repeated type_kind extents_of is_known widths_of wide_entries entries_in entry_step entry_head extent_at carved carve_one cut_one item_span exif_content
+    ∷ part kind.Unknown 206 1 206 1 ∷ [])
+unfolding layout_of gaps_from walked top_piece child_piece head_of box_header number items_of items_in repeated type_kind extents_of is_known widths_of wide_entries entries_in entry_step entry_head extent_at carved carve_one cut_one item_span exif_content
 parts_of_three = refl
+
+-- data of two pictures that share a byte, and of a third one: what is between them is zeros
+abbrev of_pictures : List Extent
+of_pictures =
+    record { kind = kind.Picture; from = 6; end = 7 }
+    ∷ record { kind = kind.Picture; from = 1; end = 3 }
+    ∷ record { kind = kind.Picture; from = 2; end = 4 } ∷ []
+
+gaps_between : gaps_from (1 ∷ 2 ∷ 3 ∷ 4 ∷ 0 ∷ 0 ∷ 7 ∷ 8 ∷ 9 ∷ []) of_pictures 9 9 0
+    ≡ record { kind = kind.Unknown; from = 0; end = 1 }
+    ∷ record { kind = kind.Unknown; from = 7; end = 9 } ∷ []
+unfolding gaps_from
+gaps_between = refl
 
 -- two items that share their bytes, of which one is a picture: what holds them is not known
 abbrev shared : List ℕ

@@ -5,6 +5,7 @@ use Rattle.exif_inventory.specs.declared.part.Part.{Part}
 use Rattle.exif_inventory.specs.BoxHeaders.{content_of, head_of, name_of}
 use Rattle.exif_inventory_heif.specs.Carving.{carved}
 use Rattle.exif_inventory_heif.specs.Extents.{extents_of}
+use Rattle.exif_inventory_heif.specs.Gaps.{gaps_cut}
 use Rattle.exif_inventory_heif.specs.Items.{items_of}
 use Rattle.exif_inventory_heif.specs.Loops.{and_then}
 use Rattle.exif_inventory_heif.specs.Spans.{has, only, part_of, payload}
@@ -57,11 +58,12 @@ extents_with file spans items =
 abbrev pub extents_in : List ℕ → List Span → Option (List Extent)
 extents_in file spans = and_then (items_in_file file spans) (extents_with file spans)
 
--- the spans of a file with the metadata cut out of them, and whether what is left is judged: if
--- the items can be read, and the file has no tracks
+-- the spans of a file with the metadata cut out of them, and what no item has, and whether what is
+-- left is judged: if the items can be read, and the file has no tracks
 abbrev pub settled : List ℕ → List Span → Option (List Extent) → List Span × Bool
 settled file spans None = (spans, false)
-settled file spans (Some extents) = carved file extents (spans, not (has Movie spans))
+settled file spans (Some extents) =
+    gaps_cut file extents (carved file extents (spans, not (has Movie spans)))
 
 -- the parts of a file that spans are
 abbrev pub judged_parts : List Span × Bool → List Part

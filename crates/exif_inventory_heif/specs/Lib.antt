@@ -7,6 +7,7 @@ pub mod Loops
 pub mod Items
 pub mod Extents
 pub mod Carving
+pub mod Gaps
 pub mod Inventories
 pub mod Promises
 pub mod Examples

@@ -48,8 +48,8 @@ fn are_many(extents: &[Extent]) -> bool
         > CUT_LIMIT
 }
 
-// Whether a span may hold data of items.
-fn may_hold(role: Role) -> bool
+/// Whether a span may hold data of items.
+pub fn may_hold(role: Role) -> bool
     ensures { result ≡ may_hold role }
 {
     matches!(role, Role::ItemData | Role::MediaData)

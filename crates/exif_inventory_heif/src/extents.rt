@@ -34,15 +34,21 @@ pub struct Room {
     pub idat: Option<Span>,
 }
 
-// How many bytes the fields of an entry take.
-#[derive(Clone, Copy)]
-struct Widths {
-    number: u8,
-    method: u8,
-    base: u8,
-    index: u8,
-    offset: u8,
-    len: u8,
+/// How many bytes the fields of an entry take.
+#[derive(Clone, Copy, Debug)]
+pub struct Widths {
+    /// The number of an item.
+    pub number: u8,
+    /// How its data are put together.
+    pub method: u8,
+    /// What is added to each offset.
+    pub base: u8,
+    /// The index of an extent.
+    pub index: u8,
+    /// The offset of an extent.
+    pub offset: u8,
+    /// The length of an extent.
+    pub len: u8,
 }
 
 // What an entry says of all its extents.
@@ -68,9 +74,9 @@ struct Reading<'a> {
     found: Vec<Extent>,
 }
 
-// The widths that a version and four numbers of 4 bits say.
+/// The widths that a version and four numbers of 4 bits say.
 #[tactic(auto, unfolding(crate::specs::Extents::widths_of))]
-fn widths_of(version: u8, packed: usize) -> Widths
+pub fn widths_of(version: u8, packed: usize) -> Widths
     ensures value { result ≡ widths_of version packed }
     ensures most { result.number ≤ 4 }
 {
@@ -98,16 +104,16 @@ fn are_widths(w: Widths) -> bool
     is_width(w.base) && is_width(w.index) && is_width(w.offset) && is_width(w.len)
 }
 
-// How many bytes come before the extents of an entry.
-fn head_len(w: Widths) -> usize
+/// How many bytes come before the extents of an entry.
+pub fn head_len(w: Widths) -> usize
     ensures value { result ≡ head_len w }
     ensures most { result ≤ 1024 }
 {
     usize::from(w.number) + usize::from(w.method) + usize::from(w.base) + 4
 }
 
-// How many bytes an extent takes.
-fn extent_len(w: Widths) -> usize
+/// How many bytes an extent takes.
+pub fn extent_len(w: Widths) -> usize
     ensures value { result ≡ extent_len w }
     ensures most { result ≤ 1024 }
 {

@@ -5,6 +5,7 @@
 
 mod carve;
 mod extents;
+mod gaps;
 mod items;
 mod numbers;
 mod parts;
@@ -13,6 +14,9 @@ mod role;
 mod span;
 mod walk;
 
+pub use extents::{Widths, extent_len, head_len, widths_of};
+pub use items::text_len;
+pub use numbers::number;
 pub use parts::{inventory, layout};
 pub use role::Role;
 pub use span::{Layout, Span, part_of};

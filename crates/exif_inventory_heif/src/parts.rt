@@ -11,6 +11,7 @@ ghost use Rattle.exif_inventory_heif.specs.Walks.{AreSpans, IsInside};
 
 use crate::carve::carved;
 use crate::extents::{Extent, Room, extents_of};
+use crate::gaps::gaps_cut;
 use crate::items::{Item, items_of};
 use crate::role::Role;
 use crate::span::{Layout, Span, has, only, part_of, payload};
@@ -114,7 +115,8 @@ fn settled(alloc: Global, file: &[u8], spans: Vec<Span>) -> Result<Layout, Alloc
     match extents_in(alloc, file, &spans)? {
         Some(extents) => {
             let judged = !has(Role::Movie, &spans);
-            carved(alloc, file, &extents, Layout { spans, judged })
+            let layout = carved(alloc, file, &extents, Layout { spans, judged })?;
+            gaps_cut(alloc, file, &extents, layout)
         }
         None => Ok(Layout {
             spans,
@@ -183,15 +185,15 @@ pub fn layout(alloc: Global, file: &[u8]) -> Result<Option<Layout>, AllocError>
 ///
 /// Each box is a part, and so are the header of the first `meta` and each box in that. The data of
 /// each item that is neither a picture nor made of pictures are parts of their own, cut out of the
-/// box that holds them; what is left of the box is the picture's, also where no item has it.
-/// Neighbours are not joined.
+/// box that holds them, and so are bytes of the box that no item has, if they are not all zeros.
+/// What is left of the box is the picture's. Neighbours are not joined.
 ///
 /// The items are not understood where their lists can't be read, where data of an item are in no
 /// box for such data, or not in the file, where data of an item that is no picture are shared, and
 /// where the file has tracks as well. Then what may be the picture's or not, in `meta` and in the
-/// boxes with data, is not known, and no part of the picture. So it is with more than 16,384 items,
-/// 65,536 extents, 4,096 boxes, or 256 extents of items that are no pictures. It takes memory for
-/// the lists.
+/// boxes with data, is not known, and no part of the picture. So it is with more than 16,384 items
+/// or extents, 4,096 boxes, 256 extents of items that are no pictures, or 256 stretches of bytes
+/// that no item has. It takes memory for the lists.
 pub fn inventory(alloc: Global, file: &[u8]) -> Result<Option<Vec<Part>>, AllocError>
     ensures answer { IfOk result
         (λ parts. option_map (λ v. v.items) parts ≡ heif_inventory file.now) }

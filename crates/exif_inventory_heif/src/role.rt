@@ -42,8 +42,8 @@ pub fn same_role(wanted: Role, role: Role) -> bool
     }
 }
 
-// Whether all bytes are zero.
-fn is_zeros(bytes: &[u8]) -> bool
+/// Whether all bytes are zero.
+pub fn is_zeros(bytes: &[u8]) -> bool
     ensures { result ≡ is_zeros bytes.now }
 {
     for b in bytes {

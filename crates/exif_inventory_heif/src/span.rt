@@ -1,6 +1,6 @@
 //! Spans of a file, each with its role.
 
-ghost use Rattle.std.specs.Prelude.{◌≡◌, length};
+ghost use Rattle.std.specs.Prelude.{◌≡◌, drop, length, take};
 ghost use Rattle.std.specs.List.{list_any};
 ghost use Rattle.exif_inventory_heif.specs.Spans.{has, only, part_kind, part_of, data_from, payload};
 
@@ -60,12 +60,19 @@ pub fn only(wanted: Role, spans: &[Span]) -> Option<Span>
     None
 }
 
+/// The bytes between two offsets, as far as the file has them.
+pub fn bytes_between(from: usize, end: usize, file: &[u8]) -> &[u8]
+    ensures { result.now ≡ drop from (take end file.now) }
+{
+    let front = &file[..file.len().min(end)];
+    &front[front.len().min(from)..]
+}
+
 /// What a span of a file holds, as far as the file has it.
 pub fn payload(span: Span, file: &[u8]) -> &[u8]
     ensures { result.now ≡ payload span file.now }
 {
-    let front = &file[..file.len().min(span.end)];
-    &front[front.len().min(span.content)..]
+    bytes_between(span.content, span.end, file)
 }
 
 // What a span is, where items are or are not understood.

@@ -7,7 +7,7 @@ use Rattle.exif_inventory.specs.declared.part.Part.{Part}
 use Rattle.exif_inventory_heif.specs.Inventories.{heif_layout}
 use Rattle.exif_inventory_heif.specs.Walks.{AreSpans}
 use Rattle.exif_inventory_heif.specs.declared.span.Span.{Span}
-use Rattle.exif_scrub.specs.HeifBlanks.{blanked, span_blank}
+use Rattle.exif_blanks.specs.HeifBlanks.{blanked, span_blank}
 use Rattle.exif_scrub.specs.HeifScrubbing.{bytes_of, emptied_by, if_emptied, is_settled, left_parts, scrubbed, settled, settled_by, span_emptied, spans_emptied, with_bytes, with_left}
 use Rattle.exif_scrub.specs.declared.heif.fault.Fault.{Fault}
 use Rattle.exif_scrub.specs.declared.heif.fault.Fault.TheVariants.{Unstable}

@@ -7,13 +7,13 @@ use Rattle.exif_inventory.specs.declared.part.Part.{Part}
 use Rattle.exif_inventory_heif.specs.Inventories.{heif_inventory, is_heif, judged_parts, layout_of}
 use Rattle.exif_inventory_heif.specs.Spans.{data_within, part_kind, part_of}
 use Rattle.exif_inventory_heif.specs.declared.role.Role.{Role}
-use Rattle.exif_inventory_heif.specs.declared.role.Role.TheVariants.{ItemInfo, Known, Meta, Movie}
+use Rattle.exif_inventory_heif.specs.declared.role.Role.TheVariants.{ItemInfo, ItemLocation, Known, Meta, Movie}
 use Rattle.exif_inventory_heif.specs.declared.span.Span.{Span}
-use Rattle.exif_scrub.specs.HeifBlanks.{blanked, listed_box, role_blank, span_blank, unknown_box}
+use Rattle.exif_blanks.specs.HeifBlanks.{blanked, listed_box, role_blank, span_blank, unknown_box}
 use Rattle.exif_scrub.specs.HeifPromises.{AllKnown, IsBlank, IsKnown, empty_of}
 use Rattle.exif_scrub.specs.HeifScrubbing.{bytes_of, is_other, is_settled, left_of, left_parts, scrubbed, settled, stays}
-use Rattle.exif_scrub.specs.declared.heif.blank.Blank.{Blank}
-use Rattle.exif_scrub.specs.declared.heif.blank.Blank.TheVariants.{Nothing, Packet, Zeros, Free}
+use Rattle.exif_blanks.specs.declared.blank.Blank.{Blank}
+use Rattle.exif_blanks.specs.declared.blank.Blank.TheVariants.{Nothing, Packet, Zeros, Free}
 use Rattle.exif_scrub.proofs.HeifTwice.{both_true, scrubbed_settled, settled_bytes, settled_is}
 
 -- what is to be shown of a part, of whose bytes nothing else becomes
@@ -52,6 +52,7 @@ shown judged (Known k) span bytes Answered h c = inr (inr (c refl))
 shown judged Movie span bytes Answered h c = inr (inr (c refl))
 shown judged Meta span bytes Answered h c = shown_listed judged (data_within Meta span == span.from) bytes Meta Answered refl h c
 shown judged ItemInfo span bytes Answered h c = shown_listed judged (data_within ItemInfo span == span.from) bytes ItemInfo Answered refl h c
+shown judged ItemLocation span bytes Answered h c = shown_listed judged (data_within ItemLocation span == span.from) bytes ItemLocation Answered refl h c
 shown judged role span bytes Answered h c = shown_mixed judged (data_within role span == span.from) bytes role Answered refl h c
 
 -- ---- all parts

@@ -1,11 +1,7 @@
-pub mod BlankSteps
 pub mod LayoutOrder
 pub mod Left
-pub mod SameSteps
 pub mod SpanSteps
 pub mod Stays
 pub mod HeifTwice
 pub mod TiffSteps
 pub mod TiffTwice
-pub mod BareSteps
-pub mod BareSame

@@ -4,10 +4,10 @@ use Rattle.std.proofs.lemmas.List.{drop-drop, drop-take, drop_all, drop_at, leng
 use Rattle.std.proofs.lemmas.List.Elements.{All-cons, All-nil}
 use Rattle.exif_inventory_heif.specs.Walks.{AreSpans}
 use Rattle.exif_inventory_heif.specs.declared.span.Span.{Span}
-use Rattle.exif_scrub.specs.HeifBlanks.{blanked, span_blank}
+use Rattle.exif_blanks.specs.HeifBlanks.{blanked, span_blank}
 use Rattle.exif_scrub.specs.HeifPromises.{AllBecome, Becomes}
 use Rattle.exif_scrub.specs.HeifScrubbing.{bytes_of, spans_emptied, with_bytes}
-use Rattle.exif_scrub.proofs.BlankSteps.{blanked_long}
+use Rattle.exif_blanks.proofs.BlankSteps.{blanked_long}
 
 -- ---- other bytes in a span
 

@@ -6,9 +6,9 @@ use Rattle.exif_inventory.specs.declared.part.Part.{Part}
 use Rattle.exif_inventory_heif.specs.Inventories.{heif_layout}
 use Rattle.exif_inventory_heif.specs.Spans.{part_kind}
 use Rattle.exif_inventory_heif.specs.declared.role.Role.{Role}
-use Rattle.exif_inventory_heif.specs.declared.role.Role.TheVariants.{ItemInfo, Known, Meta}
+use Rattle.exif_inventory_heif.specs.declared.role.Role.TheVariants.{ItemInfo, ItemLocation, Known, Meta}
 use Rattle.exif_inventory_heif.specs.declared.span.Span.{Span}
-use Rattle.exif_scrub.specs.HeifBlanks.{blanked, role_blank}
+use Rattle.exif_blanks.specs.HeifBlanks.{blanked, role_blank}
 use Rattle.exif_scrub.specs.HeifPromises.{Becomes, KeepsPicture, PictureStays, picture_bytes}
 use Rattle.exif_scrub.specs.HeifScrubbing.{bytes_of, emptied, emptied_by, if_emptied, scrubbed, settled, spans_emptied}
 use Rattle.exif_scrub.proofs.LayoutOrder.{heif_ordered}
@@ -21,8 +21,10 @@ picture_blank : (judged : Bool) (role : Role) (span : Span) (bytes : List â„•) â
 unfolding blanked
 picture_blank true Meta span bytes k = refl
 picture_blank true ItemInfo span bytes k = refl
+picture_blank true ItemLocation span bytes k = refl
 picture_blank false Meta span bytes k = absurd (cc)
 picture_blank false ItemInfo span bytes k = absurd (cc)
+picture_blank false ItemLocation span bytes k = absurd (cc)
 picture_blank judged (Known kind.Exif) span bytes k = absurd (cc)
 picture_blank judged (Known kind.Xmp) span bytes k = absurd (cc)
 picture_blank judged (Known kind.Unknown) span bytes k = absurd (cc)

@@ -7,12 +7,12 @@ use Rattle.exif_inventory.specs.declared.part.Part.{Part}
 use Rattle.exif_inventory_heif.specs.Spans.{part_kind}
 use Rattle.exif_inventory_heif.specs.Walks.{AreSpans}
 use Rattle.exif_inventory_heif.specs.declared.role.Role.{Role}
-use Rattle.exif_inventory_heif.specs.declared.role.Role.TheVariants.{ItemInfo, Meta}
+use Rattle.exif_inventory_heif.specs.declared.role.Role.TheVariants.{ItemInfo, ItemLocation, Meta}
 use Rattle.exif_inventory_heif.specs.declared.span.Span.{Span}
-use Rattle.exif_scrub.specs.HeifBlanks.{blanked, described, span_blank}
+use Rattle.exif_blanks.specs.HeifBlanks.{blanked, described, span_blank}
 use Rattle.exif_scrub.specs.HeifScrubbing.{bytes_of, stays}
-use Rattle.exif_scrub.specs.declared.heif.blank.Blank.{Blank}
-use Rattle.exif_scrub.specs.declared.heif.blank.Blank.TheVariants.{Nothing, Fields, Packet, Zeros, Free}
+use Rattle.exif_blanks.specs.declared.blank.Blank.{Blank}
+use Rattle.exif_blanks.specs.declared.blank.Blank.TheVariants.{Nothing, Fields, Packet, Zeros, Free}
 
 -- the bytes of a span become what its role asks for; those of a span that stays are as they were
 abbrev pub Becomes : Bool → List ℕ → List ℕ → Span → Type 0
@@ -62,6 +62,7 @@ AllKnown file left (Some parts) = All (IsKnown file left) parts
 abbrev pub picture_bytes : Role → List ℕ → List ℕ
 picture_bytes Meta bytes = described bytes
 picture_bytes ItemInfo bytes = described bytes
+picture_bytes ItemLocation bytes = described bytes
 picture_bytes role bytes = bytes
 
 -- a span of the picture has these bytes

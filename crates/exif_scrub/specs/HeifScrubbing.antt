@@ -9,9 +9,9 @@ use Rattle.exif_inventory.specs.declared.part.Part.{Part}
 use Rattle.exif_inventory_heif.specs.Inventories.{heif_layout}
 use Rattle.exif_inventory_heif.specs.Spans.{part_of}
 use Rattle.exif_inventory_heif.specs.declared.span.Span.{Span}
-use Rattle.exif_scrub.specs.HeifBlanks.{blanked, is_blank, span_blank}
-use Rattle.exif_scrub.specs.declared.heif.blank.Blank.{Blank}
-use Rattle.exif_scrub.specs.declared.heif.blank.Blank.TheVariants.{Nothing}
+use Rattle.exif_blanks.specs.HeifBlanks.{blanked, is_blank, span_blank}
+use Rattle.exif_blanks.specs.declared.blank.Blank.{Blank}
+use Rattle.exif_blanks.specs.declared.blank.Blank.TheVariants.{Nothing}
 use Rattle.exif_scrub.specs.declared.heif.fault.Fault.{Fault}
 use Rattle.exif_scrub.specs.declared.heif.fault.Fault.TheVariants.{Unstable}
 

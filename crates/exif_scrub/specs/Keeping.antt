@@ -2,8 +2,8 @@
 use Rattle.std.specs.Prelude.{◌≡◌, ℕ, ◌+◌, Bool, List, ◌++◌, length, take, drop, nat_le, ◌&&◌, Result, Ok, Err, if◌then◌else◌}
 use Rattle.std.specs.Str.{bytes_eq}
 use Rattle.exif_base.specs.Bytes.{Reading, number_at}
-use Rattle.exif_scrub.specs.Steps.{bared}
-use Rattle.exif_scrub.specs.declared.steps.Place.TheVariants.{Start}
+use Rattle.exif_blanks.specs.Steps.{bared}
+use Rattle.exif_blanks.specs.declared.steps.Place.TheVariants.{Start}
 use Rattle.exif_scrub.specs.declared.tiff.fault.Fault.{Fault}
 use Rattle.exif_scrub.specs.declared.tiff.fault.Fault.TheVariants.{Broken, SharedBytes}
 use Rattle.exif_scrub.specs.declared.tiff.pass.Handling.{Handling}

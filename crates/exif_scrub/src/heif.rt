@@ -3,7 +3,6 @@
 //! [`scrub`] changes no byte of the picture, moves none, and answers which parts stay that may hold
 //! metadata.
 
-mod blank;
 mod fault;
 mod file;
 pub mod laws;

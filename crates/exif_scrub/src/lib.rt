@@ -2,9 +2,5 @@
 //! picture changes or moves.
 #![tactic(auto)]
 
-mod boxes;
-mod bytes;
 pub mod heif;
-mod jpeg;
-mod steps;
 pub mod tiff;

@@ -5,9 +5,9 @@ ghost use Rattle.exif_inventory_heif.specs.Inventories.{heif_layout};
 ghost use Rattle.exif_scrub.specs.HeifPromises.{AllBecome};
 ghost use Rattle.exif_scrub.specs.HeifScrubbing.{answered, emptied, scrubbed, span_emptied};
 
-use crate::heif::blank::{overwrite, span_blank};
 use crate::heif::fault::Fault;
 use crate::heif::settled::parts_left;
+use exif_blanks::blank::{overwrite, span_blank};
 use exif_inventory::Part;
 use exif_inventory_heif::{Layout, Span, layout};
 use std::alloc::{AllocError, Global};
@@ -42,16 +42,21 @@ pub fn empty(alloc: Global, file: &mut [u8]) -> Result<bool, AllocError>
 /// Takes all metadata out of a HEIF or AVIF file, in place, and answers the parts that stay though
 /// they may hold some, in their order: `None` for a file of another format, which stays as it is.
 ///
-/// The data of Exif and XMP items become empty data of their kind, those of items that are not
-/// known zeros. Boxes with an XMP packet or content credentials, and boxes that are not known,
-/// become free space of the same size. The names of the handler and of items become zeros and
-/// spaces. Of properties those stay that describe a picture, with their fields, and of groups of
-/// items those that show alternatives or two eyes; the contents of the others become zeros.
+/// The data of Exif and XMP items become empty data of their kind. Those of items that are not
+/// known become zeros, and so do bytes that no item has in boxes with the items' data. Boxes with
+/// an XMP packet or content credentials, and boxes that are not known, become free space of the
+/// same size. The names of the handler and of items become zeros and spaces.
 ///
-/// No byte moves, and of all other parts none changes: tracks
-/// (`moov`), what is cut off, and, where the items are not understood, boxes that are not known and
-/// those with the items' data stay, and are answered. Bytes of the latter that no item has are the
-/// picture's otherwise, and stay.
+/// Of properties those stay that describe a picture, with their fields, and of groups of items
+/// those that show alternatives or two eyes; the contents of the others become zeros. So do bytes
+/// behind the fields of a group, and behind the entries of the lists of items, of their data,
+/// properties and references; the type of an auxiliary picture, if it is not a known one, and what
+/// follows it; and the units in the configuration of a HEVC decoder that are no parameters, but for
+/// their headers.
+///
+/// No byte moves, and of all other parts none changes: tracks (`moov`), what is cut off, and, where
+/// the items are not understood, boxes that are not known and those with the items' data stay, and
+/// are answered.
 ///
 /// The answer is found in the new file: each part of it is the picture's, empty, or answered, and
 /// scrubbing it again changes nothing ([`crate::heif::laws`]). A file of which that does not hold is

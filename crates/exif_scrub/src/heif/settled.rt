@@ -5,8 +5,8 @@ ghost use Rattle.std.specs.Prelude.{◌≡◌, ◌≤◌, ◌++◌, length, All,
 ghost use Rattle.exif_inventory_heif.specs.Walks.{IsInside};
 ghost use Rattle.exif_scrub.specs.HeifScrubbing.{is_other, is_settled, left_of, left_parts, parts_made, settled, stays};
 
-use crate::heif::blank::{Blank, is_blank, span_blank};
 use crate::heif::fault::Fault;
+use exif_blanks::blank::{Blank, is_blank, span_blank};
 use exif_inventory::{Kind, Part};
 use exif_inventory_heif::{Layout, Span, layout, part_of};
 use std::alloc::{AllocError, Global};

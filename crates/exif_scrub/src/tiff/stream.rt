@@ -3,7 +3,7 @@
 ghost use Rattle.std.specs.Prelude.{◌≡◌, length};
 ghost use Rattle.exif_scrub.specs.Keeping.{bared_if, is_stretch};
 
-use crate::steps::{Place, bare, is_bared};
+use exif_blanks::steps::{Place, bare, is_bared};
 
 /// Puts bytes in place of others, without the metadata of the JPEG stream that they may be.
 pub fn put(is_stream: bool, bytes: &[u8], new: &mut [u8])

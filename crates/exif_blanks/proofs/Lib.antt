@@ -1,0 +1,4 @@
+pub mod BlankSteps
+pub mod BareSteps
+pub mod BareSame
+pub mod SameSteps

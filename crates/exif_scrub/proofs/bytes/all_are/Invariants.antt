@@ -1,7 +1,0 @@
-use Rattle.std.proofs.Common.{◌≡◌, drop}
-use Rattle.exif_scrub.specs.HeifBlanks.{all_are}
-use Rattle.exif_scrub.proofs.bytes.all_are.Given as goal
-
--- those that are left decide
-abbrev pub invariant-loop-x : goal.invariant-loop-x
-invariant-loop-x l = all_are l.b (drop l.x-index l.bytes) ≡ all_are l.b l.bytes
