@@ -5,3 +5,4 @@ pub mod FirstSteps
 pub mod OtherSteps
 pub mod PortionSteps
 pub mod TwiceSteps
+mod HeifParts
