@@ -154,3 +154,15 @@ typed name more =
 described_typed : blanked Described (typed (codes "Me") 9) ≡ typed (codes "  ") 0
 unfolding blanked bared_from head_of box_header
 described_typed = refl
+
+-- that of an AV1 decoder: the header of a sequence, and metadata
+abbrev av1_configuration : List ℕ → List ℕ
+av1_configuration metadata =
+    0 ∷ 0 ∷ 0 ∷ 36 ∷ codes "iprp" ++ 0 ∷ 0 ∷ 0 ∷ 28 ∷ codes "ipco"
+    ++ 0 ∷ 0 ∷ 0 ∷ 20 ∷ codes "av1C" ++ 0x81 ∷ 0 ∷ 12 ∷ 0
+    ∷ 0x0a ∷ 1 ∷ 7 ∷ 0x2a ∷ 3 ∷ metadata
+
+described_av1 : blanked Described (av1_configuration (4 ∷ 5 ∷ 6 ∷ []))
+    ≡ av1_configuration (0 ∷ 0 ∷ 0 ∷ [])
+unfolding blanked bared_from head_of box_header
+described_av1 = refl

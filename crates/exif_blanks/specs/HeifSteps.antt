@@ -1,35 +1,29 @@
 -- What stays of the boxes that describe the pictures of a HEIF file (ISO/IEC 14496-12, 8.4.3,
 -- 8.11.3, 8.11.6, 8.11.12, 8.11.14, 8.18; ISO/IEC 23008-12, 6.5, 9.3, 9.4; AV1 Image File Format,
 -- 2.3; ISO/IEC 14496-15, 8.3.3, 9.6.3).
-use Rattle.std.specs.Prelude.{ℕ, ◌+◌, ◌-◌, ◌*◌, ◌/◌, ◌%◌, min, List, [], ◌∷◌, length, take, drop, codes, slice_index, nat_lt, nat_le, Bool, not, ◌||◌, ◌==◌, Option, Some, None, if◌then◌else◌}
+use Rattle.std.specs.Prelude.{ℕ, ◌+◌, ◌-◌, ◌*◌, ◌%◌, min, List, [], ◌∷◌, length, take, drop, codes, slice_index, nat_lt, nat_le, Bool, not, ◌||◌, ◌==◌, Option, Some, None, if◌then◌else◌}
 use Rattle.std.specs.Int.{from_be_bytes, w16, w32}
 use Rattle.std.specs.Str.{bytes_eq}
+use Rattle.exif_blanks.specs.BaseSteps.{front, whole}
+use Rattle.exif_blanks.specs.ConfigSteps.{config_len, config_step, obus_by, obus_config, units_by}
 use Rattle.exif_inventory.specs.BoxHeaders.{head_of, name_of}
 use Rattle.exif_inventory.specs.declared.boxes.Head.{Head}
 use Rattle.exif_inventory_heif.specs.Extents.{extent_len, head_len, widths_of}
 use Rattle.exif_inventory_heif.specs.Numbers.{number}
 use Rattle.exif_inventory_heif.specs.Items.{count_width, item_width, text_len}
 use Rattle.exif_blanks.specs.declared.steps.Place.{Place}
-use Rattle.exif_blanks.specs.declared.steps.Place.TheVariants.{Associations, Boxes, Entries, Groups, Locations, Name, Properties, References, Rest, Texts, Units, Zeros}
+use Rattle.exif_blanks.specs.declared.steps.Place.TheVariants.{Associations, Boxes, Entries, Groups, Locations, Name, Properties, References, Rest, Texts, Zeros}
 use Rattle.exif_blanks.specs.declared.steps.AssociationList.{AssociationList}
 use Rattle.exif_blanks.specs.declared.steps.EntryTexts.{EntryTexts}
+use Rattle.exif_blanks.specs.declared.steps.ListedObus.{ListedObus}
 use Rattle.exif_blanks.specs.declared.steps.ListedUnits.{ListedUnits}
 use Rattle.exif_blanks.specs.declared.steps.LocationList.{LocationList}
 use Rattle.exif_blanks.specs.declared.steps.Step.{Step}
 
--- so many bytes that all stay
-abbrev pub whole : ℕ → Place → Step
-whole len next = record { len = len; kept = len; fill = 0; next = next }
-
--- so many bytes of which so many at the front stay
-abbrev pub front : ℕ → ℕ → Place → Step
-front kept len next = record { len = len; kept = kept; fill = 0; next = next }
-
 -- whether a property says how a picture is coded
 abbrev pub is_coding : List ℕ → Bool
 is_coding name =
-    bytes_eq name (codes "av1C") || bytes_eq name (codes "avcC")
-    || bytes_eq name (codes "vvcC") || bytes_eq name (codes "evcC")
+    bytes_eq name (codes "avcC") || bytes_eq name (codes "vvcC") || bytes_eq name (codes "evcC")
     || bytes_eq name (codes "j2kH") || bytes_eq name (codes "jpgC")
     || bytes_eq name (codes "a1lx")
 
@@ -215,27 +209,10 @@ locations_step found bytes =
       widths = found.widths;
     }))
 
--- how many bytes of fields the configuration of a HEVC decoder has before the units of its
--- bitstream, with the count of their lists (ISO/IEC 14496-15, 8.3.3.1, 9.6.3); 0 for others
-abbrev pub config_len : List ℕ → ℕ
-config_len name =
-    if bytes_eq name (codes "hvcC") then 23 else if bytes_eq name (codes "lhvC") then 6 else 0
-
--- a configuration up to its first list of units, if it has all its fields
-abbrev pub config_step : ℕ → List ℕ → Head → Step
-config_step space bytes head =
-    if nat_lt head.len (head.front + config_len (name_of bytes))
-    then front head.front head.len (Properties (space - head.len))
-    else whole (head.front + config_len (name_of bytes)) (Units (record {
-      lists = slice_index bytes (head.front + config_len (name_of bytes) - 1);
-      left = 0;
-      space = head.len - (head.front + config_len (name_of bytes));
-      behind = space - head.len;
-    }))
-
 abbrev pub property_by : ℕ → List ℕ → Option Head → Step
 property_by space bytes None = front 0 space Boxes
 property_by space bytes (Some head) =
+    if bytes_eq (name_of bytes) (codes "av1C") then obus_config space head else
     if config_len (name_of bytes) == 0
     then front (property_kept bytes head) head.len (Properties (space - head.len))
     else config_step space bytes head
@@ -245,46 +222,16 @@ property_step space bytes =
     if space == 0 then list_step bytes
     else property_by space (take space bytes) (head_of (take space bytes))
 
--- whether a unit, by its first byte, has parameters: of the video, of a sequence or of a picture
--- (ISO/IEC 23008-2, 7.3.1.2, table 7-1)
-abbrev pub is_parameters : ℕ → Bool
-is_parameters b = (b / 2 % 64 == 32) || (b / 2 % 64 == 33) || (b / 2 % 64 == 34)
-
--- a list of units up to the first one: a type and a count
-abbrev pub units_listed : List ℕ → ListedUnits → Step
-units_listed bytes units = whole 3 (Units (record {
-  lists = units.lists - 1;
-  left = from_be_bytes w16 (take 2 (drop 1 bytes));
-  space = units.space - 3;
-  behind = units.behind;
-}))
-
--- a unit behind its length; of one without parameters its header of two bytes stays
-abbrev pub unit_len : List ℕ → ℕ
-unit_len bytes = 2 + from_be_bytes w16 (take 2 bytes)
-
-abbrev pub one_unit : List ℕ → ListedUnits → Step
-one_unit bytes units =
-    front (if is_parameters (slice_index bytes 2) then unit_len bytes else 4)
-    (min units.space (unit_len bytes)) (Units (record {
-      lists = units.lists;
-      left = units.left - 1;
-      space = units.space - unit_len bytes;
-      behind = units.behind;
-    }))
-
--- the bytes of a configuration that come next; those behind its units become zeros
-abbrev pub units_by : List ℕ → ListedUnits → Step
-units_by bytes units =
-    if nat_lt (length bytes) 3 then front 0 units.space (Properties units.behind) else
-    if nat_lt 0 units.left then one_unit bytes units else
-    if nat_lt 0 units.lists then units_listed bytes units
-    else front 0 units.space (Properties units.behind)
-
+-- the bytes of a configuration that come next, or the property behind it
 abbrev pub units_step : ListedUnits → List ℕ → Step
 units_step units bytes =
     if units.space == 0 then property_step units.behind bytes
     else units_by (take units.space bytes) units
+
+abbrev pub obus_step : ListedObus → List ℕ → Step
+obus_step obus bytes =
+    if obus.space == 0 then property_step obus.behind bytes
+    else obus_by (take obus.space bytes) obus
 
 -- how many bytes of a group stay: of one of these its header, a version and flags, its number, a
 -- count, and the numbers of so many items; of others the header alone

@@ -7,7 +7,7 @@ use Rattle.exif_inventory.specs.declared.kind.Kind.TheVariants as kind
 use Rattle.exif_inventory.specs.declared.piece.Piece.{Piece}
 use Rattle.exif_inventory.specs.declared.piece.State.{State}
 use Rattle.exif_inventory.specs.declared.piece.State.TheVariants as state
-use Rattle.exif_blanks.specs.HeifSteps.{whole}
+use Rattle.exif_blanks.specs.BaseSteps.{whole}
 use Rattle.exif_blanks.specs.declared.steps.Place.TheVariants.{Rest, Stream}
 use Rattle.exif_blanks.specs.declared.steps.Step.{Step}
 

@@ -1,9 +1,10 @@
 -- Bytes without their metadata, step after step.
 use Rattle.std.specs.Prelude.{ℕ, zero, suc, ◌-◌, min, max, List, [], ◌∷◌, ◌++◌, length, take, drop, replicate}
-use Rattle.exif_blanks.specs.HeifSteps.{associations_step, box_step, entry_step, front, group_step, list_step, locations_step, name_step, property_step, references_step, text_step, units_step, whole}
+use Rattle.exif_blanks.specs.BaseSteps.{front, whole}
+use Rattle.exif_blanks.specs.HeifSteps.{associations_step, box_step, entry_step, group_step, list_step, locations_step, name_step, obus_step, property_step, references_step, text_step, units_step}
 use Rattle.exif_blanks.specs.JpegStreams.{start_step, stream_step}
 use Rattle.exif_blanks.specs.declared.steps.Place.{Place}
-use Rattle.exif_blanks.specs.declared.steps.Place.TheVariants.{Associations, Box, Boxes, Entries, Groups, Locations, Name, Properties, References, Rest, Start, Stream, Texts, Units, Zeros}
+use Rattle.exif_blanks.specs.declared.steps.Place.TheVariants.{Associations, Box, Boxes, Entries, Groups, Locations, Name, Obus, Properties, References, Rest, Start, Stream, Texts, Units, Zeros}
 use Rattle.exif_blanks.specs.declared.steps.Step.{Step}
 
 -- what becomes of the bytes at the front, by what they are
@@ -14,6 +15,7 @@ place_step Box bytes = box_step bytes
 place_step Boxes bytes = list_step bytes
 place_step (Properties space) bytes = property_step space bytes
 place_step (Units units) bytes = units_step units bytes
+place_step (Obus obus) bytes = obus_step obus bytes
 place_step Groups bytes = group_step bytes
 place_step Entries bytes = entry_step bytes
 place_step (Name entry) bytes = name_step entry bytes

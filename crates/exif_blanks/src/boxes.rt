@@ -8,6 +8,7 @@ ghost use Rattle.exif_blanks.specs.HeifSteps.{aux_kept, box_by, box_step, channe
 use crate::bytes::{front_of, long};
 use crate::config::{config_len, config_step};
 use crate::lists::{associations_listed, locations_listed, references_listed};
+use crate::obus::obus_config;
 use crate::steps::{Place, Step, front, whole};
 use exif_inventory::boxes::{Head, head_of, name_of};
 use exif_inventory_heif::text_len;
@@ -16,8 +17,7 @@ use exif_inventory_heif::text_len;
 fn is_coding(name: &[u8]) -> bool
     ensures { result ≡ is_coding name.now }
 {
-    name == b"av1C".as_slice()
-        || name == b"avcC".as_slice()
+    name == b"avcC".as_slice()
         || name == b"vvcC".as_slice()
         || name == b"evcC".as_slice()
         || name == b"j2kH".as_slice()
@@ -200,7 +200,9 @@ fn property_in(space: usize, bytes: &[u8]) -> Step
     let Some(head) = head_of(bytes) else {
         return front(0, space, Place::Boxes);
     };
-    if config_len(name_of(bytes)) == 0 {
+    if name_of(bytes) == b"av1C".as_slice() {
+        obus_config(space, head)
+    } else if config_len(name_of(bytes)) == 0 {
         let next = Place::Properties(space.saturating_sub(head.len));
         front(property_kept(bytes, head), head.len, next)
     } else {

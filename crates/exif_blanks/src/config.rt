@@ -1,7 +1,8 @@
 //! What stays of the configuration of a HEVC decoder.
 
 ghost use Rattle.std.specs.Prelude.{◌≡◌, ◌≤◌, length};
-ghost use Rattle.exif_blanks.specs.HeifSteps.{config_len, config_step, is_parameters, one_unit, unit_len, units_by, units_listed, units_step};
+ghost use Rattle.exif_blanks.specs.ConfigSteps.{config_len, config_step, is_parameters, one_unit, unit_len, units_by, units_listed};
+ghost use Rattle.exif_blanks.specs.HeifSteps.{units_step};
 
 use crate::boxes::property_step;
 use crate::bytes::{front_of, lesser, short};

@@ -9,4 +9,5 @@ mod config;
 mod entries;
 mod jpeg;
 mod lists;
+mod obus;
 pub mod steps;

@@ -3,7 +3,7 @@
 ghost use Rattle.std.specs.Prelude.{◌≡◌, ◌<◌, ◌≤◌, ◌+◌, ◌-◌, ◌++◌, ◌&&◌, length, take, drop, replicate};
 ghost use Rattle.std.specs.Str.{bytes_eq};
 ghost use Rattle.exif_blanks.specs.HeifBlanks.{all_are};
-ghost use Rattle.exif_blanks.specs.HeifSteps.{front, whole};
+ghost use Rattle.exif_blanks.specs.BaseSteps.{front, whole};
 ghost use Rattle.exif_blanks.specs.Steps.{bared, fitted, fitted_len, place_step, step_of};
 
 use crate::boxes::{box_step, group_step, list_step, property_step};
@@ -12,6 +12,7 @@ use crate::config::units_step;
 use crate::entries::{entry_step, name_step, text_step};
 use crate::jpeg::{start_step, stream_step};
 use crate::lists::{associations_step, locations_step, references_step};
+use crate::obus::obus_step;
 use exif_inventory_heif::Widths;
 
 /// What the next bytes are.
@@ -29,6 +30,8 @@ pub enum Place {
     Properties(usize),
     /// The configuration of a decoder, behind its fields.
     Units(ListedUnits),
+    /// That of an AV1 decoder, behind its fields.
+    Obus(ListedObus),
     /// Groups of items.
     Groups,
     /// Entries of items.
@@ -57,6 +60,15 @@ pub struct ListedUnits {
     /// How many units of this list are left.
     pub left: usize,
     /// How much space is left for all.
+    pub space: usize,
+    /// How much is left behind them for properties.
+    pub behind: usize,
+}
+
+/// The units of an AV1 bitstream in the configuration of a decoder.
+#[derive(Clone, Copy)]
+pub struct ListedObus {
+    /// How much space is left for them.
     pub space: usize,
     /// How much is left behind them for properties.
     pub behind: usize,
@@ -137,6 +149,7 @@ fn place_step(place: Place, bytes: &[u8]) -> Step
         Place::Boxes => list_step(bytes),
         Place::Properties(space) => property_step(space, bytes),
         Place::Units(units) => units_step(units, bytes),
+        Place::Obus(obus) => obus_step(obus, bytes),
         Place::Groups => group_step(bytes),
         Place::Entries => entry_step(bytes),
         Place::Name(entry) => name_step(entry, bytes),

@@ -51,8 +51,8 @@ pub fn empty(alloc: Global, file: &mut [u8]) -> Result<bool, AllocError>
 /// those that show alternatives or two eyes; the contents of the others become zeros. So do bytes
 /// behind the fields of a group, and behind the entries of the lists of items, of their data,
 /// properties and references; the type of an auxiliary picture, if it is not a known one, and what
-/// follows it; and the units in the configuration of a HEVC decoder that are no parameters, but for
-/// their headers.
+/// follows it; and the units in the configuration of a HEVC or AV1 decoder that are no parameters,
+/// but for their headers.
 ///
 /// No byte moves, and of all other parts none changes: tracks (`moov`), what is cut off, and, where
 /// the items are not understood, boxes that are not known and those with the items' data stay, and
