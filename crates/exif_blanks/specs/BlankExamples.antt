@@ -66,6 +66,25 @@ described_items : blanked Described (listed (codes "Me")) ≡ listed (codes "  "
 unfolding blanked bared_from head_of box_header
 described_items = refl
 
+-- names that encoders give every file stay, and others that are longer do not
+abbrev known_item : List ℕ
+known_item =
+    0 ∷ 0 ∷ 0 ∷ 40 ∷ codes "iinf" ++ 0 ∷ 0 ∷ 0 ∷ 0 ∷ 0 ∷ 1 ∷ 0 ∷ 0 ∷ 0 ∷ 26 ∷ codes "infe"
+    ++ 2 ∷ 0 ∷ 0 ∷ 0 ∷ 0 ∷ 1 ∷ 0 ∷ 0 ∷ codes "av01Color\0"
+
+described_color : blanked Described known_item ≡ known_item
+unfolding blanked bared_from head_of box_header
+described_color = refl
+
+abbrev known_handler : List ℕ
+known_handler =
+    0 ∷ 0 ∷ 0 ∷ 47 ∷ codes "hdlr" ++ replicate 8 0 ++ codes "pict" ++ replicate 12 0
+    ++ codes "PictureHandler\0"
+
+described_picture : blanked Described known_handler ≡ known_handler
+unfolding blanked bared_from head_of box_header
+described_picture = refl
+
 -- bits for each channel, with a byte behind them
 abbrev channels : ℕ → List ℕ
 channels more =

@@ -1,7 +1,7 @@
 -- What stays of the boxes that describe the pictures of a HEIF file (ISO/IEC 14496-12, 8.4.3,
 -- 8.11.3, 8.11.6, 8.11.12, 8.11.14, 8.18; ISO/IEC 23008-12, 6.5, 9.3, 9.4; AV1 Image File Format,
 -- 2.3; ISO/IEC 14496-15, 8.3.3, 9.6.3).
-use Rattle.std.specs.Prelude.{ℕ, ◌+◌, ◌-◌, ◌*◌, ◌%◌, min, List, [], ◌∷◌, length, take, drop, codes, slice_index, nat_lt, nat_le, Bool, not, ◌||◌, ◌==◌, Option, Some, None, if◌then◌else◌}
+use Rattle.std.specs.Prelude.{ℕ, ◌+◌, ◌-◌, ◌*◌, ◌%◌, min, List, [], ◌∷◌, length, take, drop, replicate, ◌++◌, codes, slice_index, nat_lt, nat_le, Bool, not, ◌||◌, ◌==◌, Option, Some, None, if◌then◌else◌}
 use Rattle.std.specs.Int.{from_be_bytes, w16, w32}
 use Rattle.std.specs.Str.{bytes_eq}
 use Rattle.exif_blanks.specs.BaseSteps.{front, whole}
@@ -254,14 +254,37 @@ abbrev pub texts_of : List ℕ → ℕ
 texts_of name =
     if bytes_eq name (codes "mime") then 2 else if bytes_eq name (codes "uri ") then 1 else 0
 
+-- how many bytes a text takes, if bytes begin with it
+abbrev pub begun_len : List ℕ → List ℕ → ℕ
+begun_len text bytes = if bytes_eq (take (length text) bytes) text then length text else 0
+
+-- how many bytes a name takes with the zero behind it, if it is one that encoders (libavif, FFmpeg)
+-- give the items of every file; no two of these begin alike
+abbrev pub known_name_len : List ℕ → ℕ
+known_name_len bytes =
+    begun_len (codes "Color\0") bytes + begun_len (codes "Alpha\0") bytes
+    + begun_len (codes "Exif\0") bytes + begun_len (codes "XMP\0") bytes
+    + begun_len (codes "GMap\0") bytes
+
+-- what follows the type of an item, which ends at an index: its name, which stays if it is a known
+-- one
+abbrev pub typed_entry : List ℕ → Head → ℕ → ℕ → Step
+typed_entry bytes head end known =
+    if known == 0 then whole end (Name (record {
+      texts = texts_of (take 4 (drop (end - 4) bytes));
+      space = head.len - end;
+    }))
+    else whole (end + known) (Texts (record {
+      texts = texts_of (take 4 (drop (end - 4) bytes));
+      space = head.len - end - known;
+    }))
+
 -- the entry of an item, up to its name, if it has one behind a number of this width
 abbrev pub wide_entry : List ℕ → Head → ℕ → Step
 wide_entry bytes head width =
     if (width == 0) || nat_lt head.len (head.front + width + 10) then whole head.len Entries
-    else whole (head.front + width + 10) (Name (record {
-      texts = texts_of (take 4 (drop (head.front + width + 6) bytes));
-      space = head.len - (head.front + width + 10);
-    }))
+    else typed_entry bytes head (head.front + width + 10)
+    (known_name_len (drop (head.front + width + 10) (take head.len bytes)))
 
 abbrev pub named_entry : List ℕ → Head → Step
 named_entry bytes head =
@@ -312,8 +335,18 @@ number_step bytes head next =
     then whole (head.front + 4 + count_width (slice_index bytes head.front)) next
     else whole (length bytes) Rest
 
+-- what a handler has behind its version, flags and type: twelve reserved bytes, and its name
+abbrev pub handler_rest : List ℕ → Head → List ℕ
+handler_rest bytes head = drop (head.front + 12) (take head.len bytes)
+
+-- how many of these stay: none, or zeros and a name that encoders (FFmpeg, libavif) give every file
+abbrev pub known_handler_len : List ℕ → ℕ
+known_handler_len rest =
+    begun_len (replicate 12 0 ++ codes "PictureHandler\0") rest
+    + begun_len (replicate 12 0 ++ codes "libavif\0") rest
+
 -- a box that describes pictures: the list of items up to the first entry; of the handler the name
--- becomes zeros, and what is behind the number of the first picture
+-- becomes zeros, unless it is a known one, and what is behind the number of the first picture
 abbrev pub box_by : List ℕ → Option Head → Step
 box_by bytes None = whole (length bytes) Rest
 box_by bytes (Some head) =
@@ -323,7 +356,8 @@ box_by bytes (Some head) =
     if bytes_eq (name_of bytes) (codes "pitm") then number_step bytes head Zeros else
     if bytes_eq (name_of bytes) (codes "iref") then references_listed bytes head else
     if bytes_eq (name_of bytes) (codes "iloc") then locations_listed bytes head else
-    if bytes_eq (name_of bytes) (codes "hdlr") then whole (head.front + 12) Zeros
+    if bytes_eq (name_of bytes) (codes "hdlr")
+    then whole (head.front + 12 + known_handler_len (handler_rest bytes head)) Zeros
     else whole (length bytes) Rest
 
 abbrev pub box_step : List ℕ → Step

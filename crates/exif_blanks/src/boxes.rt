@@ -3,9 +3,9 @@
 ghost use Rattle.std.specs.Prelude.{◌≡◌, ◌<◌, ◌≤◌, length, IfSome};
 ghost use Rattle.exif_inventory.specs.BoxHeaders.{head_of};
 ghost use Rattle.exif_inventory_heif.specs.Items.{count_width};
-ghost use Rattle.exif_blanks.specs.HeifSteps.{aux_kept, box_by, box_step, channels_kept, fields_len, full_content, group_by, group_kept, group_step, is_aux_type, is_coding, is_color, is_group, is_property, is_relation, list_by, list_step, number_step, property_by, property_kept, property_step};
+ghost use Rattle.exif_blanks.specs.HeifSteps.{aux_kept, box_by, box_step, channels_kept, fields_len, full_content, group_by, group_kept, group_step, handler_rest, is_aux_type, is_coding, is_color, is_group, is_property, is_relation, known_handler_len, list_by, list_step, number_step, property_by, property_kept, property_step};
 
-use crate::bytes::{front_of, long};
+use crate::bytes::{begun_len, front_of, long};
 use crate::config::{config_len, config_step};
 use crate::lists::{associations_listed, locations_listed, references_listed};
 use crate::obus::obus_config;
@@ -267,8 +267,24 @@ fn number_step(bytes: &[u8], head: Head, next: Place) -> Step
     }
 }
 
-/// A box that describes pictures. Of the handler the name becomes zeros, and what is behind the
-/// number of the first picture.
+// How many bytes stay of what a handler has behind its version, flags and type: none, or zeros and a
+// name that encoders (FFmpeg, libavif) give every file.
+fn handler_kept(bytes: &[u8], head: Head) -> usize
+    requires front { head.front ≤ 16 }
+    requires within { head.len ≤ length bytes.now }
+    ensures value { result ≡ known_handler_len (handler_rest bytes.now head) }
+    ensures most { result ≤ 47 }
+{
+    if head.len < head.front + 12 {
+        return 0;
+    }
+    let rest = &bytes[..head.len][head.front + 12..];
+    begun_len(b"\0\0\0\0\0\0\0\0\0\0\0\0PictureHandler\0", rest)
+        + begun_len(b"\0\0\0\0\0\0\0\0\0\0\0\0libavif\0", rest)
+}
+
+/// A box that describes pictures. Of the handler the name becomes zeros, unless it is a known one, and
+/// what is behind the number of the first picture.
 pub fn box_step(bytes: &[u8]) -> Step
     ensures { result ≡ box_step bytes.now }
 {
@@ -289,7 +305,7 @@ pub fn box_step(bytes: &[u8]) -> Step
     } else if name == b"iloc".as_slice() {
         locations_listed(bytes, head)
     } else if name == b"hdlr".as_slice() {
-        whole(head.front + 12, Place::Zeros)
+        whole(head.front + 12 + handler_kept(bytes, head), Place::Zeros)
     } else {
         whole(bytes.len(), Place::Rest)
     }

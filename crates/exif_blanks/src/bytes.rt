@@ -3,6 +3,7 @@
 ghost use Rattle.std.specs.Int.{from_be_bytes, w16, w32};
 ghost use Rattle.std.specs.Prelude.{◌≡◌, ◌≤◌, length, min, take};
 ghost use Rattle.exif_blanks.specs.HeifBlanks.{all_are};
+ghost use Rattle.exif_blanks.specs.HeifSteps.{begun_len};
 
 /// Whether all bytes are this one.
 pub fn all_are(b: u8, bytes: &[u8]) -> bool
@@ -32,6 +33,18 @@ pub fn front_of(len: usize, bytes: &[u8]) -> &[u8]
         &bytes[..len]
     } else {
         bytes
+    }
+}
+
+/// How many bytes a text takes, if bytes begin with it; else 0.
+pub fn begun_len(text: &[u8], bytes: &[u8]) -> usize
+    ensures value { result ≡ begun_len text.now bytes.now }
+    ensures most { result ≤ length text.now }
+{
+    if front_of(text.len(), bytes) == text {
+        text.len()
+    } else {
+        0
     }
 }
 

@@ -1,10 +1,11 @@
-//! What stays of the entries of items: their names become spaces.
+//! What stays of the entries of items: their names become spaces, but for known ones.
 
-ghost use Rattle.std.specs.Prelude.{◌≡◌, ◌<◌, ◌≤◌, length};
+ghost use Rattle.std.specs.Prelude.{◌≡◌, ◌<◌, ◌≤◌, ◌^◌, length};
 ghost use Rattle.exif_inventory.specs.BoxHeaders.{head_of};
 ghost use Rattle.exif_inventory_heif.specs.Items.{item_width};
-ghost use Rattle.exif_blanks.specs.HeifSteps.{entry_by, entry_step, kept_letter, letter_step, name_step, named_entry, text_step, texts_of, wide_entry};
+ghost use Rattle.exif_blanks.specs.HeifSteps.{entry_by, entry_step, kept_letter, known_name_len, letter_step, name_step, named_entry, text_step, texts_of, typed_entry, wide_entry};
 
+use crate::bytes::begun_len;
 use crate::steps::{EntryTexts, Place, Step, front, whole};
 use exif_inventory::boxes::{Head, head_of, name_of};
 
@@ -22,6 +23,39 @@ fn texts_of(name: &[u8]) -> usize
     }
 }
 
+// How many bytes a name takes with the zero behind it, if it is one that encoders (libavif, FFmpeg)
+// give the items of every file.
+fn known_name_len(bytes: &[u8]) -> usize
+    ensures value { result ≡ known_name_len bytes.now }
+    ensures most { result < 2 ^ 8 }
+{
+    begun_len(b"Color\0", bytes)
+        + begun_len(b"Alpha\0", bytes)
+        + begun_len(b"Exif\0", bytes)
+        + begun_len(b"XMP\0", bytes)
+        + begun_len(b"GMap\0", bytes)
+}
+
+// What follows the type of an item, which ends at an index: its name, which stays if it is a known
+// one of so many bytes.
+fn typed_entry(bytes: &[u8], head: Head, end: usize, known: usize) -> Step
+    requires front { 4 ≤ end }
+    requires most { end ≤ head.len }
+    requires known { known < 2 ^ 8 }
+    requires within { head.len ≤ length bytes.now }
+    ensures { result ≡ typed_entry bytes.now head end known }
+{
+    let entry = EntryTexts {
+        texts: texts_of(&bytes[end - 4..end]),
+        space: (head.len - end).saturating_sub(known),
+    };
+    if known == 0 {
+        whole(end, Place::Name(entry))
+    } else {
+        whole(end + known, Place::Texts(entry))
+    }
+}
+
 // The entry of an item, up to its name, if it has one behind a number of this width.
 fn wide_entry(bytes: &[u8], head: Head, width: usize) -> Step
     requires front { head.front ≤ 16 }
@@ -33,11 +67,7 @@ fn wide_entry(bytes: &[u8], head: Head, width: usize) -> Step
     if width == 0 || head.len < end {
         return whole(head.len, Place::Entries);
     }
-    let texts = EntryTexts {
-        texts: texts_of(&bytes[end - 4..end]),
-        space: head.len - end,
-    };
-    whole(end, Place::Name(texts))
+    typed_entry(bytes, head, end, known_name_len(&bytes[..head.len][end..]))
 }
 
 // How many bytes the number of an item takes in an entry of this version; 0 is not known.

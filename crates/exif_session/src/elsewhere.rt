@@ -77,7 +77,9 @@ fn write_times<W: fmt::Write>(f: &mut fmt::Formatter<W>, count: u64) -> fmt::Res
     ensures { WritesOnOk W.write_str_gives f.old result (times_text count) f.new }
 {
     if count == 1 {
-        f.write_str("1 file keeps its time of modification (--keep-time), which may say when it was taken")
+        f.write_str(
+            "1 file keeps its time of modification (--keep-time), which may say when it was taken",
+        )
     } else {
         write!(
             f,

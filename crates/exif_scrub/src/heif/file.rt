@@ -45,7 +45,8 @@ pub fn empty(alloc: Global, file: &mut [u8]) -> Result<bool, AllocError>
 /// The data of Exif and XMP items become empty data of their kind. Those of items that are not
 /// known become zeros, and so do bytes that no item has in boxes with the items' data. Boxes with
 /// an XMP packet or content credentials, and boxes that are not known, become free space of the
-/// same size. The names of the handler and of items become zeros and spaces.
+/// same size. The names of the handler and of items become zeros and spaces, but for those that
+/// encoders give every file (`Color`, `PictureHandler`).
 ///
 /// Of properties those stay that describe a picture, with their fields, and of groups of items
 /// those that show alternatives or two eyes; the contents of the others become zeros. So do bytes
