@@ -1,10 +1,5 @@
 pub mod Counting
-pub mod Encodings
-pub mod Finding
 pub mod Moves
 pub mod Reading
-pub mod Rowwise
-pub mod Showing
-pub mod Streaming
-pub mod Tabs
+pub mod ReadingRows
 pub mod Types

@@ -11,19 +11,14 @@ use Rattle.std.specs.declared.string.String.{String}
 use Rattle.sqlite.specs.Held.{Held, state}
 use Rattle.sqlite.specs.State.{IsUnchanged}
 use Rattle.sqlite.specs.Store.{Ghosts}
-use Rattle.exif_catalog.specs.Reading.{Deletes, FailsToDelete, Steps, delete_row, known_by}
-use Rattle.exif_catalog.specs.Statements.{RunsWith, path_parameter}
-use Rattle.exif_catalog.specs.declared.errors.CatalogError.{CatalogError}
+use Rattle.exif_catalog.specs.Reading.{Deletes, FailsToDelete, known_by}
+use Rattle.exif_catalog_file.specs.Handing.{Steps}
+use Rattle.exif_catalog_file.proofs.Handing.{steps_more}
+use Rattle.exif_catalog.specs.Statements.{delete_row, path_parameter}
+use Rattle.exif_catalog_file.specs.Statements.{RunsWith}
+use Rattle.exif_catalog_file.specs.declared.errors.CatalogError.{CatalogError}
 use Rattle.exif_catalog.specs.declared.hashes.Move.{Move}
 use Rattle.exif_catalog.specs.declared.known.Known.{Known}
-
--- one step more
-pub steps_more : {X A : Type 0} (Step : X → A → X → Type 0) (items : List A) (item : A)
-    (old mid new : X) → Steps Step old items mid → Step mid item new
-    → Steps Step old (items ++ item ∷ []) new
-steps_more Step [] item old mid new done step = (new, rw done at step, refl)
-steps_more Step (first ∷ items) item old mid new done step =
-    (done.0, done.1, steps_more Step items item done.0 mid new done.2 step)
 
 -- one row more
 known_more : (entries : List (List ℕ × Known)) (path : List ℕ) (known : Known) (q : List ℕ)

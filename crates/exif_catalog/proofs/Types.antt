@@ -5,7 +5,7 @@ use Rattle.exif_summary.specs.declared.columns.Column.{Column}
 use Rattle.exif_summary.specs.declared.columns.Column.TheVariants as column
 use Rattle.exif_types.specs.declared.field.Field.{Field}
 use Rattle.exif_catalog.specs.Laws.{ColumnTakes, takes}
-use Rattle.exif_catalog.specs.Schema as type
+use Rattle.exif_catalog_file.specs.Schema as type
 use Rattle.exif_catalog.specs.Values.{maybe_shown}
 
 -- whole numbers

@@ -2,8 +2,8 @@
 use Rattle.std.specs.Prelude.{◌≡◌, List, Bool, true, false, Some}
 use Rattle.exif_summary.specs.declared.columns.Column.{Column}
 use Rattle.exif_types.specs.declared.field.Field.{Field}
-use Rattle.exif_catalog.specs.Schema.{ColumnType, type_of}
-use Rattle.exif_catalog.specs.Schema as type
+use Rattle.exif_catalog_file.specs.Schema.{ColumnType, type_of}
+use Rattle.exif_catalog_file.specs.Schema as type
 use Rattle.exif_catalog.specs.Values.{Stored, column_value}
 use Rattle.exif_catalog.specs.Values as value
 

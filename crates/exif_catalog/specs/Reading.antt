@@ -1,5 +1,5 @@
 -- What is read of a database, and what is done with rows one after the other.
-use Rattle.std.specs.Prelude.{◌≡◌, ◌⊎◌, ℕ, ◌-◌, ◌^◌, List, [], ◌∷◌, ◌++◌, length, Bool, map, find, flat_map, reverse, Option, Some, None, option_map, Result, Ok, Err, codes, string_bytes}
+use Rattle.std.specs.Prelude.{◌≡◌, ◌⊎◌, ℕ, List, [], ◌∷◌, ◌++◌, Bool, map, find, flat_map, reverse, Option, Some, None, option_map, Result, Ok, Err, string_bytes}
 use Rattle.std.specs.Borrow.{Bor}
 use Rattle.std.specs.BTreeMap.{BTreeMap, get_by_text}
 use Rattle.std.specs.Global.{Global}
@@ -7,47 +7,22 @@ use Rattle.std.specs.Str.{bytes_eq}
 use Rattle.std.specs.declared.string.String.{String}
 use Rattle.sqlite_value.specs.Order.{Row}
 use Rattle.sqlite.specs.Store.{Ghosts}
-use Rattle.sqlite.specs.Given.{HasGiven, Returns}
 use Rattle.sqlite.specs.Held.{Held, state}
-use Rattle.sqlite.specs.Listing.{understood}
-use Rattle.sqlite.specs.State.{FailsToQuery, IsNotRun, IsUnchanged, Shown}
-use Rattle.sqlite.specs.Stream.{HasEnded, returned}
+use Rattle.sqlite.specs.State.{IsNotRun, IsUnchanged, Shown}
 use Rattle.sqlite.specs.declared.error.Error.{Error}
-use Rattle.sqlite.specs.declared.error.Error.TheVariants.{SqliteFailure}
-use Rattle.sqlite.specs.declared.error.ErrorCode.TheVariants.{OperationInterrupted}
-use Rattle.exif_catalog.specs.Errors.{database_error}
+use Rattle.exif_catalog_file.specs.Errors.{database_error}
+use Rattle.exif_catalog_file.specs.Handing.{FailsToShow, HasShown, Steps}
 use Rattle.exif_catalog.specs.Moves.{moved_paths, moves_of}
-use Rattle.exif_catalog.specs.Statements.{ByTables, PreparesAs, RunsWith, and_then, entry_at, hashed_at, path_parameter}
-use Rattle.exif_catalog.specs.declared.errors.CatalogError.{CatalogError}
-use Rattle.exif_catalog.specs.declared.errors.CatalogError.TheVariants as error
+use Rattle.exif_catalog_file.specs.Statements.{ByTables, PreparesAs, RunsWith, and_then}
+use Rattle.exif_catalog.specs.Statements.{delete_row, entry_at, hashed_at, path_parameter, read_hashes, read_rows}
+use Rattle.exif_catalog_file.specs.declared.errors.CatalogError.{CatalogError}
 use Rattle.exif_catalog.specs.declared.hashes.Move.{Move}
 use Rattle.exif_catalog.specs.declared.known.Known.{Known}
 use Rattle.exif_catalog.specs.declared.known.Side.{Side}
 use Rattle.exif_catalog.specs.declared.known.Side.TheVariants as side
 use Rattle.exif_catalog.specs.declared.moving.Hashed.{Hashed}
 
--- ---- the texts
-
--- what reads what a run has to know of each row
-abbrev pub read_rows : List ℕ
-read_rows =
-    codes "SELECT path, file_size, file_modified, file_modified_ns, file_changed, "
-    ++ codes "file_changed_ns, file_device, file_inode, removed, hash IS NULL FROM picture"
-
--- what reads the hashes that rows have
-abbrev pub read_hashes : List ℕ
-read_hashes = codes "SELECT path, hash FROM picture WHERE hash IS NOT NULL"
-
--- what takes a row away
-abbrev pub delete_row : List ℕ
-delete_row = codes "DELETE FROM picture WHERE path = ?1"
-
--- ---- one after the other
-
--- a step for each item, in their order
-abbrev pub Steps : {X A : Type 0} → (X → A → X → Type 0) → X → List A → X → Type 0
-Steps Step old [] new = new ≡ old
-Steps {X} Step old (item ∷ items) new = (mid : X) × Step old item mid × Steps Step mid items new
+-- ---- what is read of rows
 
 -- what is read of each row, or why nothing is of the first of which nothing is
 abbrev pub each_of : {A : Type 0} → (Row → Result A CatalogError) → List Row
@@ -86,20 +61,6 @@ abbrev pub hashed_parts : Hashed → List ℕ × List ℕ
 hashed_parts picture = (string_bytes picture.path, string_bytes picture.hash)
 
 module _ {S : Type 0} (g : Ghosts S) where
-  -- A query has given these rows: it runs over what the database shows, or it was a write, which
-  -- may have more rows to show.
-  abbrev pub HasShown : List ℕ → Held S → Held S → List Row → Type 0
-  HasShown sql old new rows =
-      (HasGiven g sql [] new rows × IsUnchanged (state g old) (state g new))
-      ⊎ (Returns (understood old.schema sql)
-      × Shown sql [] (state g old) (state g new) (rows ++ returned new.reading)
-      × HasEnded new.reading)
-
-  -- a query fails; of a write that shows rows nothing more is said
-  abbrev pub FailsToShow : List ℕ → Held S → Held S → Error → Type 0
-  FailsToShow sql old new why = FailsToQuery sql [] (state g old) (state g new) why
-      ⊎ Returns (understood old.schema sql)
-
   -- these are read of the rows that a query shows
   abbrev pub ReadsEach : {A : Type 0} → List ℕ → (Row → Result A CatalogError) → Held S → Held S
       → List A → Type 0
@@ -110,9 +71,9 @@ module _ {S : Type 0} (g : Ghosts S) where
   abbrev pub FailsToRead : {A : Type 0} → List ℕ → (Row → Result A CatalogError) → Held S → Held S
       → CatalogError → Type 0
   FailsToRead {A} sql read old new e =
-      ((why : Error) × FailsToShow sql old new why × (e ≡ database_error why))
+      ((why : Error) × FailsToShow g sql old new why × (e ≡ database_error why))
       ⊎ ((rows : List Row) × (row : Row) × (items : List A)
-      × HasShown sql old new (rows ++ row ∷ []) × (each_of read rows ≡ Ok items)
+      × HasShown g sql old new (rows ++ row ∷ []) × (each_of read rows ≡ Ok items)
       × (read row ≡ Err e))
 
   -- what is known of all rows
@@ -154,22 +115,6 @@ module _ {S : Type 0} (g : Ghosts S) where
       × (e ≡ database_error why))
       ⊎ ((mid : Held S) × (done : List Move) × (move : Move) × (left : List Move)
       × (moves ≡ done ++ move ∷ left) × DeletesEach old done mid × Deletes mid move new (Err e))
-
-  -- ---- rows that are handed on
-
-  -- each row that a query shows is handed on, in their order, and they are counted
-  abbrev pub HandsEach : {X : Type 0} → (X → Row → X → Type 0) → List ℕ → Held S → Held S → X → X
-      → ℕ → Type 0
-  HandsEach Hands sql old new was is count = (rows : List Row)
-      × Shown sql [] (state g old) (state g new) rows × (count ≡ length rows)
-      × Steps Hands was rows is
-
-  -- a query fails, or shows more rows than a count can tell
-  abbrev pub FailsToHand : List ℕ → Held S → Held S → CatalogError → Type 0
-  FailsToHand sql old new e =
-      ((why : Error) × FailsToShow sql old new why × (e ≡ database_error why))
-      ⊎ ((rows : List Row) × HasShown sql old new rows × (length rows ≡ 2 ^ 64 - 1)
-      × (e ≡ error.Database (SqliteFailure OperationInterrupted)))
 
   -- ---- what a run begins with
 

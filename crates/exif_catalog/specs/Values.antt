@@ -1,13 +1,11 @@
 -- The values of a picture's row.
 use Rattle.std.specs.Prelude.{ℕ, ℤ, pos, nat_lt, ◌^◌, List, [], ◌∷◌, ◌++◌, Option, Some, None, if◌then◌else◌, map, option_map}
-use Rattle.std.specs.Char.{encode_utf8}
-use Rattle.std.specs.List.{flat_map}
-use Rattle.std.specs.Str.{is_utf8}
 use Rattle.std.specs.String.{string_bytes}
 use Rattle.exif_summary.specs.Columns.{Shown, cell_of, columns}
 use Rattle.exif_summary.specs.Columns as shown
 use Rattle.exif_summary.specs.declared.columns.Column.{Column}
 use Rattle.exif_types.specs.declared.field.Field.{Field}
+use Rattle.exif_catalog_file.specs.Text.{text_of}
 use Rattle.exif_catalog.specs.declared.values.PictureFile.{PictureFile}
 use Rattle.exif_catalog.specs.declared.values.SqlValue.{SqlValue}
 use Rattle.exif_catalog.specs.declared.values.SqlValue.TheVariants as sql
@@ -25,14 +23,6 @@ stored sql.Null = null
 stored (sql.Integer n) = integer n
 stored (sql.Real t) = real (string_bytes t)
 stored (sql.Text t) = text (string_bytes t)
-
--- each byte is the character of its number
-abbrev pub latin1 : List ℕ → List ℕ
-latin1 bytes = flat_map encode_utf8 bytes
-
--- bytes as a text: as they are where they are UTF-8, else by Latin-1
-abbrev pub text_of : List ℕ → List ℕ
-text_of bytes = if is_utf8 bytes then bytes else latin1 bytes
 
 -- a number, if there is one and it is at most the greatest INTEGER of SQLite
 abbrev pub amount_value : Option ℕ → Stored

@@ -11,18 +11,17 @@ ghost use Rattle.sqlite.specs.State.{CommitsBy, CommitsShowing, HasCleanDisk, Su
 ghost use Rattle.sqlite.specs.Values.{bound as bound_row, bound_value};
 ghost use Rattle.sqlite_value.specs.Value.{owned};
 ghost use Rattle.exif_summary.specs.Columns.{columns};
-ghost use Rattle.exif_catalog.specs.Schema.{insert_text};
-ghost use Rattle.exif_catalog.specs.Statements.{RunsWith, WritesRow, amount_at, entry_at, known_at as known_in, mark_parameters, mark_row, parameter_value, path_parameter, stamp_at};
-ghost use Rattle.exif_catalog.specs.Reading.{DeletesEach, FailsToDelete, FailsToRead, OpensCatalog, ReadsMoves, ReadsRows, read_rows};
+ghost use Rattle.exif_catalog.specs.Statements.{WritesRow, amount_at, entry_at, insert_text, known_at as known_in, mark_parameters, mark_row, parameter_value, path_parameter, read_rows, stamp_at};
+ghost use Rattle.exif_catalog_file.specs.Statements.{RunsWith};
+ghost use Rattle.exif_catalog.specs.Reading.{DeletesEach, FailsToDelete, FailsToRead, OpensCatalog, ReadsMoves, ReadsRows};
 ghost use Rattle.exif_catalog.specs.Runs.{forgotten, has_path, has_stamp_of, known_after, known_at, marks_in};
 
-use crate::database::{number_at, prepare, prepare_tables, text_at};
-use crate::errors::CatalogError;
 use crate::hashes::{Move, read_moves};
 use crate::known::{Known, Rows, Stamp, forget, is_unchanged, mark_of, see, stamp_for};
-use crate::schema::{DELETE_ROW, MARK_ROW, READ_ROWS, insert_text};
+use crate::statements::{DELETE_ROW, MARK_ROW, READ_ROWS, insert_text};
 use crate::totals::{Outcome, Totals, outcome_of};
 use crate::values::SqlValue;
+use exif_catalog_file::{CatalogError, number_at, prepare, prepare_tables, text_at};
 use sqlite::types::ValueRef;
 use sqlite::{Alter, Connection, Row, Statement, params};
 use std::alloc::{AllocError, Global};

@@ -5,14 +5,13 @@ ghost use Rattle.std.specs.BTreeMap.{get_by_text};
 ghost use Rattle.sqlite.specs.Held.{state};
 ghost use Rattle.sqlite.specs.State.{CommitsShowing, HasCleanDisk, Survives};
 ghost use Rattle.exif_catalog.specs.Moves.{moved_paths, moves_of};
-ghost use Rattle.exif_catalog.specs.Reading.{FailsToRead, ReadsMoves, ReadsSides, gone_in, hashed_parts, new_in, read_hashes};
-ghost use Rattle.exif_catalog.specs.Statements.{hashed_at, parts_of};
+ghost use Rattle.exif_catalog.specs.Reading.{FailsToRead, ReadsMoves, ReadsSides, gone_in, hashed_parts, new_in};
+ghost use Rattle.exif_catalog.specs.Statements.{hashed_at, parts_of, read_hashes};
 
-use crate::database::text_at;
-use crate::errors::CatalogError;
 use crate::known::{Rows, Side, side_of};
 use crate::moving::{Hashed, moves_of};
-use crate::schema::READ_HASHES;
+use crate::statements::READ_HASHES;
+use exif_catalog_file::{CatalogError, text_at};
 use sqlite::{Alter, Connection, Row};
 use std::alloc::{AllocError, Global};
 

@@ -5,21 +5,18 @@ ghost use Rattle.exif_catalog.specs.Runs.{has_stamp_of, known_after, known_at, m
 ghost use Rattle.exif_catalog.specs.Totals.{counted_all, counted_if, is_kept, no_totals};
 
 use crate::catalog::Catalog;
-use crate::database::{Job, commit};
-use crate::errors::{CatalogError, RunError, too_many};
 use crate::hashes::Move;
-use crate::heads::check_new;
 use crate::known::Stamp;
-use crate::opening::run_job;
 use crate::totals::{Outcome, Totals};
 use crate::values::SqlValue;
+use exif_catalog_file::{CatalogError, Job, RunError, change, commit, too_many};
 use sqlite::{Alter, Connection};
 use std::alloc::{AllocError, Global};
 
 /// A file that a run found, and that may be a picture.
 #[derive(Drop)]
 pub struct Found {
-    /// The text of its path, as [`text_of`](crate::text_of) has it.
+    /// The text of its path, as [`text_of`](exif_catalog_file::text_of) has it.
     pub path: String,
     /// What its file was before it was read, if all of that is known.
     pub stamp: Option<Stamp>,
@@ -255,14 +252,13 @@ impl<P: Pictures> Job for UpdateJob<'_, P> {
 }
 
 /// Brings a catalogue up to date: each picture whose file is new or has another [`Stamp`], or
-/// whose row lacks a hash that is needed ([`Pictures::needs_hash`]), gets the values that the caller
-/// has for it, and each row below the roots whose picture was not among them is marked as removed,
-/// if the root was looked through ([`Pictures::is_whole`]). Where hashes are needed, a new picture
-/// whose hash is that of one such row, and of no other new one, takes its place: its file was moved
-/// ([`moves_of`](crate::moves_of)). A file that is not there is made, also
-/// where the run then ends with an error. One that is no database, or has another version or other
-/// tables, is refused and left as it is. No other program can read or write the file until the run
-/// ends.
+/// whose row lacks a hash that is needed ([`Pictures::needs_hash`]), gets the values that the
+/// caller has for it, and each row below the roots whose picture was not among them is marked as
+/// removed, if the root was looked through ([`Pictures::is_whole`]). Where hashes are needed, a new
+/// picture whose hash is that of one such row, and of no other new one, takes its place: its file
+/// was moved ([`moves_of`](crate::moves_of)). A file that is not there is made, also where the run
+/// then ends with an error. One that is no database, or has another version or other tables, is
+/// refused and left as it is. No other program can read or write the file until the run ends.
 ///
 /// The run is one transaction: after an error the rows are as they were before. It ends only behind
 /// the last file, and finds moves only where hashes are needed.
@@ -277,6 +273,5 @@ pub fn update<P: Pictures>(
         → IfOk result (λ all. all.moves.items ≡ []) }
     ensures same { P.through pictures.new ≡ P.through pictures.old }
 {
-    check_new(rt, path)?;
-    run_job(rt, path, &mut UpdateJob { roots, pictures })
+    change(rt, path, &mut UpdateJob { roots, pictures })
 }

@@ -3,8 +3,9 @@
 ghost use Rattle.std.specs.Prelude.{◌≡◌, ℕ, List, ◌++◌, IfOk, OnOk, Some, map, option_map};
 ghost use Rattle.std.specs.String.{string_bytes};
 ghost use Rattle.exif_summary.specs.Columns.{cell_view};
-ghost use Rattle.exif_catalog.specs.Values.{amount_value, column_value, columns_values, file_values, latin1, maybe_text, row_of, shown_value, stored, text_of};
+ghost use Rattle.exif_catalog.specs.Values.{amount_value, column_value, columns_values, file_values, maybe_text, row_of, shown_value, stored};
 
+use exif_catalog_file::text_of;
 use exif_summary::{COLUMNS, Cell, Column, find_cell};
 use exif_types::Exif;
 use std::alloc::{AllocError, Global};
@@ -48,28 +49,6 @@ pub enum SqlValue {
     Real(String),
     /// A text.
     Text(String),
-}
-
-// The characters whose numbers the bytes are.
-fn latin1_of(alloc: Global, bytes: &[u8]) -> Result<String, AllocError>
-    ensures { IfOk result (λ t. string_bytes t ≡ latin1 bytes.now) }
-{
-    let mut text = String::new(alloc);
-    for byte in bytes {
-        text.push(char::from(*byte))?;
-    }
-    Ok(text)
-}
-
-/// Bytes as a text: as they are where they are UTF-8, else each byte is the character of its
-/// number (Latin-1). The only error is out of memory.
-pub fn text_of(alloc: Global, bytes: &[u8]) -> Result<String, AllocError>
-    ensures { IfOk result (λ t. string_bytes t ≡ text_of bytes.now) }
-{
-    match std::str::from_utf8(bytes) {
-        Ok(text) => String::from_str(alloc, text),
-        Err(_) => latin1_of(alloc, bytes),
-    }
 }
 
 // A text, if there is one.

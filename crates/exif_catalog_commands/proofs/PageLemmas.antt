@@ -1,7 +1,7 @@
 -- A page whose entries were added one after the other is that of the entries.
 use Rattle.std.proofs.Common.{◌≡◌, ◌∙◌, refl, sym, ap, ℕ, List, [], ◌∷◌, ◌++◌, append_assoc, append-nil, Option, Some, None, Result, Ok, Err, is_ok, IfOk, OnOk, slice_get, ◌⊎◌, inl, inr}
 use Rattle.std.specs.Borrow.{Bor}
-use Rattle.exif_catalog.specs.Reading.{Steps}
+use Rattle.exif_catalog_file.specs.Handing.{Steps}
 use Rattle.exif_page.specs.Pages.{end_html, entries_html, entry_html, foot_html, head_html, page_html}
 use Rattle.exif_page.specs.Sections.{closing, opening, section_of}
 use Rattle.exif_page.specs.Thumbnails.{thumbnail_html, thumbnails_html}

@@ -1,7 +1,7 @@
 -- What a page shows of a picture.
 use Rattle.std.specs.Prelude.{◌≡◌, ◌⊎◌, ℕ, List, ◌++◌, codes, Option, Some, None, Result, Ok, Err, slice_get, string_bytes}
 use Rattle.std.specs.Borrow.{Bor}
-use Rattle.exif_catalog.specs.declared.visiting.PictureRow.{PictureRow}
+use Rattle.exif_catalog_file.specs.declared.visiting.PictureRow.{PictureRow}
 use Rattle.exif_files.specs.declared.outcome.Status.TheVariants.{Incomplete}
 use Rattle.exif_page.specs.Pages.{end_html, entry_html, foot_html}
 use Rattle.exif_page.specs.Sections.{section_of}

@@ -3,10 +3,10 @@ use Rattle.std.specs.Prelude.{ℕ, Bool, if◌then◌else◌, List, [], ◌++◌
 use Rattle.std.specs.Fmt.{decimal}
 use Rattle.std.specs.declared.alloc.AllocError.{AllocError}
 use Rattle.std.specs.declared.io.Error as io
-use Rattle.exif_catalog.specs.declared.errors.CatalogError.{CatalogError}
-use Rattle.exif_catalog.specs.declared.errors.CatalogError.TheVariants as catalog
-use Rattle.exif_catalog.specs.declared.errors.RunError.{RunError}
-use Rattle.exif_catalog.specs.declared.errors.RunError.TheVariants.{Catalog, Caller}
+use Rattle.exif_catalog_file.specs.declared.errors.CatalogError.{CatalogError}
+use Rattle.exif_catalog_file.specs.declared.errors.CatalogError.TheVariants as catalog
+use Rattle.exif_catalog_file.specs.declared.errors.RunError.{RunError}
+use Rattle.exif_catalog_file.specs.declared.errors.RunError.TheVariants.{Catalog, Caller}
 use Rattle.exif_catalog.specs.declared.hashes.Move.{Move}
 use Rattle.exif_catalog.specs.declared.totals.Totals.{Totals}
 use Rattle.exif_catalog.specs.declared.updating.Updated.{Updated}

@@ -3,7 +3,8 @@ use Rattle.std.specs.Prelude.{ℕ, ◌/◌, ◌%◌, Bool, false, not, ◌&&◌,
 use Rattle.std.specs.Fmt.{digit_glyph}
 use Rattle.std.specs.List.{list_any}
 use Rattle.exif_catalog.specs.Known.{is_below}
-use Rattle.exif_catalog.specs.Values.{Stored, amount_value, columns_values, maybe_text, text, text_of}
+use Rattle.exif_catalog.specs.Values.{Stored, amount_value, columns_values, maybe_text, text}
+use Rattle.exif_catalog_file.specs.Text.{text_of}
 use Rattle.exif_catalog.specs.declared.known.Stamp.{Stamp}
 use Rattle.exif_catalog.specs.declared.updating.FileRow.{FileRow}
 use Rattle.exif_catalog.specs.declared.updating.FileRow.TheVariants as row

@@ -17,7 +17,8 @@ ghost use Rattle.exif_catalog_commands.specs.Rows.{hex_text, is_whole, known_sta
 
 use crate::rows::{hash_of, is_hidden, is_whole, known_stamp, row_for};
 use exif::{Error, Exif, Sink};
-use exif_catalog::{FileRow, Found, Pictures, SqlValue, text_of};
+use exif_catalog::{FileRow, Found, Pictures, SqlValue};
+use exif_catalog_file::text_of;
 use exif_decisions::{self as decisions, NotRead, Outcome};
 use exif_formats::{Options, Picture, PictureFormat};
 use exif_inputs::{FileStamp, Input, Next, open, read, read_file, stamp_of};

@@ -1,7 +1,7 @@
 //! A page that shows the pictures of a catalogue.
 
 ghost use Rattle.std.specs.Prelude.{◌≡◌, ◌⊎◌, ◌++◌, List, Err, IfOk, IsErr, IsSome, OnOk, codes, string_bytes};
-ghost use Rattle.exif_catalog.specs.Shown.{row_texts};
+ghost use Rattle.exif_catalog_file.specs.Shown.{row_texts};
 ghost use Rattle.exif_decisions.specs.Paths.{slash_after};
 ghost use Rattle.exif_files.specs.Statuses.{code};
 ghost use Rattle.exif_files.specs.declared.outcome.Status.TheVariants.{Incomplete, Refused, Success};
@@ -13,7 +13,7 @@ ghost use Rattle.exif_session.specs.Statuses.{IsStatus};
 
 use crate::reports::{refusal_of, visit_refusal};
 use exif::{Error, Sink};
-use exif_catalog::{CatalogError, PictureRow, RunError, Visitor, visit};
+use exif_catalog_file::{CatalogError, PictureRow, RunError, Visitor, visit};
 use exif_decisions::slash_after;
 use exif_files::{Status, folder_of};
 use exif_inputs::{Console, thumbnail_of};

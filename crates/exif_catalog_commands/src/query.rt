@@ -6,7 +6,7 @@ ghost use Rattle.exif_session.specs.Statuses.{IsStatus};
 use crate::reports::query_refusal;
 use exif::Sink;
 use exif_base::send_all;
-use exif_catalog::{Lines, query};
+use exif_catalog_file::{Lines, query};
 use exif_files::Status;
 use exif_inputs::Console;
 use exif_session::Stop;

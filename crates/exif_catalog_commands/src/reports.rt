@@ -3,7 +3,8 @@
 ghost use Rattle.std.specs.Prelude.{◌≡◌, IfOk, option_map, string_bytes};
 ghost use Rattle.exif_catalog_commands.specs.Reports.{move_text, query_refusal, refusal_of, report_of, reported_moves, reported_totals, totals_text, visit_refusal};
 
-use exif_catalog::{CatalogError, Move, RunError, Totals, Updated};
+use exif_catalog::{Move, Totals, Updated};
+use exif_catalog_file::{CatalogError, RunError};
 use exif_decisions::Escaped;
 use exif_session::Stop;
 use std::alloc::{AllocError, Global};

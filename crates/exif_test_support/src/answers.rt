@@ -88,14 +88,6 @@ pub fn debugs<T: Debug>(alloc: Global, value: &T, wanted: &str) -> Result<(), Fa
     is_text(shown.as_str(), wanted)
 }
 
-/// How many fields and how many faults an answer has, if it has fields.
-pub fn counts(answer: Result<Exif, Error>) -> Option<(usize, usize)> {
-    match distilled(answer) {
-        Ok((exif, faults)) => Some((exif.fields().len(), faults)),
-        Err(_other) => None,
-    }
-}
-
 /// The fields of an answer, and how many faults were skipped.
 pub fn distilled(answer: Result<Exif, Error>) -> Result<(Exif, usize), Error> {
     match answer {

@@ -1,6 +1,6 @@
-//! The tests in code of all layers, each by its public calls: devices, numbers, lists, values, the
-//! containers, reading, writing, files that are rewritten, edits, files of a disk, what programs
-//! make of words, and the examples of the guides.
+//! The tests in code of all layers, each by its public calls: what neither a contract nor a case of
+//! `exif_vectors` says. Devices and disks that fail, memory that runs out, texts at every width,
+//! closures, patches, and the examples of the guides.
 #![tactic(auto)]
 
 #[cfg(test)]

@@ -4,6 +4,7 @@ use exif_base::{Counted, Sink, Source};
 use std::alloc::Global;
 use std::io;
 use std::io::{ErrorKind, Read, Write};
+use std::process::Abort;
 use std::test::Fail;
 
 /// A reader of two bytes a call, which notes how much space each call had, and fails at the fifth.
@@ -30,8 +31,7 @@ fn reads(alloc: Global) -> Counted<NotedReads> {
     })
 }
 
-#[test]
-fn each_fetch_is_one_read(rt: HostRuntime) -> Result<(), Fail> {
+fn each_fetch_is_one(rt: &(impl Abort + AllocGlobal)) -> Result<(), Fail> {
     let mut source = reads(rt.alloc());
     let mut space = [0u8; 7];
     assert!(rt; source.fetch(&mut space)? == 2);
@@ -42,8 +42,7 @@ fn each_fetch_is_one_read(rt: HostRuntime) -> Result<(), Fail> {
     Ok(())
 }
 
-#[test]
-fn each_piece_of_a_skip_is_one_read(rt: HostRuntime) -> Result<(), Fail> {
+fn each_piece_of_a_skip_is_one(rt: &(impl Abort + AllocGlobal)) -> Result<(), Fail> {
     let mut source = reads(rt.alloc());
     assert!(rt; source.skip(0)? == 0);
     assert!(rt; source.skip(7)? == 7);
@@ -52,6 +51,12 @@ fn each_piece_of_a_skip_is_one_read(rt: HostRuntime) -> Result<(), Fail> {
     let spaces = source.into_inner().spaces;
     assert!(rt; spaces.as_slice() == [7usize, 5, 3, 1, 3].as_slice());
     Ok(())
+}
+
+#[test]
+fn each_fetch_and_each_piece_of_a_skip_is_one_read(rt: HostRuntime) -> Result<(), Fail> {
+    each_fetch_is_one(&rt)?;
+    each_piece_of_a_skip_is_one(&rt)
 }
 
 /// A writer that takes all but the last byte of each call, and notes how many bytes each call had

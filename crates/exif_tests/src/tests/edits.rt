@@ -1,11 +1,10 @@
-//! What edits report and refuse: the offsets of their patches, the texts of their errors, and bytes
+//! What edits report: the offsets of their patches, and pointers that they do not follow; and bytes
 //! that stay as they were where memory runs out.
 
 mod growth;
 mod left;
 mod memory;
 mod patches;
-mod texts;
 mod undone;
 
 use exif_types::{Context, Tag, Value};

@@ -19,6 +19,7 @@ use exif_test_support::files;
 use picture::PICTURE;
 use std::alloc::Global;
 use std::io::{Cursor, ErrorKind};
+use std::process::Abort;
 use std::test::Fail;
 
 // What the picture says.
@@ -26,16 +27,14 @@ fn read(alloc: Global) -> Result<Exif, Error> {
     read_picture(alloc, Cursor::new(PICTURE))
 }
 
-#[test]
-fn what_the_picture_says(rt: HostRuntime) -> Result<(), Fail> {
+fn what_the_picture_says(rt: &(impl Abort + AllocGlobal)) -> Result<(), Fail> {
     let exif = read(rt.alloc())?;
     assert!(rt; orientation(&exif) == Some(6));
     assert!(rt; size(&exif) == Some((32, 8)));
     Ok(())
 }
 
-#[test]
-fn what_the_fields_say(rt: HostRuntime) -> Result<(), Fail> {
+fn what_the_fields_say(rt: &(impl Abort + AllocGlobal)) -> Result<(), Fail> {
     let exif = read_fields(rt.alloc(), Cursor::new(PICTURE))?;
     assert!(rt; orientation(&exif) == Some(6));
     Ok(())
@@ -49,8 +48,7 @@ fn a_file_that_is_not_there(rt: HostRuntime) -> Result<(), Fail> {
     }
 }
 
-#[test]
-fn when_it_was_taken(rt: HostRuntime) -> Result<(), Fail> {
+fn when_it_was_taken(rt: &(impl Abort + AllocGlobal)) -> Result<(), Fail> {
     let exif = read(rt.alloc())?;
     let taken = DateTime {
         year: 2024,
@@ -66,8 +64,7 @@ fn when_it_was_taken(rt: HostRuntime) -> Result<(), Fail> {
     Ok(())
 }
 
-#[test]
-fn where_it_was_taken(rt: HostRuntime) -> Result<(), Fail> {
+fn where_it_was_taken(rt: &(impl Abort + AllocGlobal)) -> Result<(), Fail> {
     let alloc = rt.alloc();
     let exif = read(alloc)?;
     let Some((latitude, longitude)) = location(&exif) else {
@@ -105,23 +102,20 @@ fn all_of_its_fields(rt: HostRuntime) -> Result<(), Fail> {
     is_text(field_lines(alloc, &exif)?.as_str(), LINES)
 }
 
-#[test]
-fn a_damaged_picture(rt: HostRuntime) -> Result<(), Fail> {
+fn a_damaged_picture(rt: &(impl Abort + AllocGlobal)) -> Result<(), Fail> {
     let (exif, faults) = read_damaged(rt.alloc(), Cursor::new(files::WRONG_NEXT))?;
     assert!(rt; exif.fields().len() == 2);
     assert!(rt; faults == 2);
     Ok(())
 }
 
-#[test]
-fn a_picture_of_a_stranger(rt: HostRuntime) -> Result<(), Fail> {
+fn a_picture_of_a_stranger(rt: &(impl Abort + AllocGlobal)) -> Result<(), Fail> {
     let exif = read_from_stranger(rt.alloc(), Cursor::new(PICTURE))?;
     assert!(rt; exif.fields().len() == 19);
     Ok(())
 }
 
-#[test]
-fn its_thumbnail(rt: HostRuntime) -> Result<(), Fail> {
+fn its_thumbnail(rt: &(impl Abort + AllocGlobal)) -> Result<(), Fail> {
     let exif = read(rt.alloc())?;
     let Some(small) = thumbnail(&exif) else {
         return Err(Fail::new("no thumbnail"));
@@ -132,8 +126,7 @@ fn its_thumbnail(rt: HostRuntime) -> Result<(), Fail> {
     Ok(())
 }
 
-#[test]
-fn new_data(rt: HostRuntime) -> Result<(), Fail> {
+fn new_data(rt: &(impl Abort + AllocGlobal)) -> Result<(), Fail> {
     let written = new_exif(rt.alloc(), 6, b"JPEG")?;
     are_bytes(
         written.as_slice(),
@@ -142,8 +135,7 @@ fn new_data(rt: HostRuntime) -> Result<(), Fail> {
     )
 }
 
-#[test]
-fn what_was_read_written_again(rt: HostRuntime) -> Result<(), Fail> {
+fn what_was_read_written_again(rt: &(impl Abort + AllocGlobal)) -> Result<(), Fail> {
     let alloc = rt.alloc();
     let exif = read_picture(alloc, Cursor::new(files::DESCRIBED_LITTLE))?;
     are_bytes(
@@ -152,8 +144,7 @@ fn what_was_read_written_again(rt: HostRuntime) -> Result<(), Fail> {
     )
 }
 
-#[test]
-fn an_orientation_set(rt: HostRuntime) -> Result<(), Fail> {
+fn an_orientation_set(rt: &(impl Abort + AllocGlobal)) -> Result<(), Fail> {
     let alloc = rt.alloc();
     let mut picture = Vec::from_slice(alloc, PICTURE)?;
     assert!(rt; set_orientation(alloc, picture.as_mut_slice(), 1).is_ok());
@@ -162,8 +153,7 @@ fn an_orientation_set(rt: HostRuntime) -> Result<(), Fail> {
     Ok(())
 }
 
-#[test]
-fn a_location_erased(rt: HostRuntime) -> Result<(), Fail> {
+fn a_location_erased(rt: &(impl Abort + AllocGlobal)) -> Result<(), Fail> {
     let alloc = rt.alloc();
     let mut picture = Vec::from_slice(alloc, PICTURE)?;
     assert!(rt; erase_location(alloc, picture.as_mut_slice()).is_ok());
@@ -173,8 +163,7 @@ fn a_location_erased(rt: HostRuntime) -> Result<(), Fail> {
     Ok(())
 }
 
-#[test]
-fn fields_without_a_location(rt: HostRuntime) -> Result<(), Fail> {
+fn fields_without_a_location(rt: &(impl Abort + AllocGlobal)) -> Result<(), Fail> {
     let alloc = rt.alloc();
     let data = without_location(alloc, &read(alloc)?)?;
     let exif = read_picture(alloc, Cursor::new(data.as_slice()))?;
@@ -183,8 +172,7 @@ fn fields_without_a_location(rt: HostRuntime) -> Result<(), Fail> {
     Ok(())
 }
 
-#[test]
-fn a_picture_without_metadata(rt: HostRuntime) -> Result<(), Fail> {
+fn a_picture_without_metadata(rt: &(impl Abort + AllocGlobal)) -> Result<(), Fail> {
     let alloc = rt.alloc();
     let clean = without_metadata(alloc, PICTURE)?;
     // The stream but for its Exif segment, which follows 20 bytes and takes 558.
@@ -197,8 +185,7 @@ fn a_picture_without_metadata(rt: HostRuntime) -> Result<(), Fail> {
     }
 }
 
-#[test]
-fn values_made_counted_and_shown(rt: HostRuntime) -> Result<(), Fail> {
+fn values_made_counted_and_shown(rt: &(impl Abort + AllocGlobal)) -> Result<(), Fail> {
     let alloc = rt.alloc();
     let exif = read(alloc)?;
     assert!(rt; width(&exif)? == Some(32));
@@ -208,4 +195,34 @@ fn values_made_counted_and_shown(rt: HostRuntime) -> Result<(), Fail> {
         shown(alloc, &field.display_value())?.as_str(),
         "\"A. Nyone\"",
     )
+}
+
+#[test]
+fn what_the_guides_read(rt: HostRuntime) -> Result<(), Fail> {
+    what_the_picture_says(&rt)?;
+    what_the_fields_say(&rt)?;
+    when_it_was_taken(&rt)?;
+    where_it_was_taken(&rt)?;
+    its_thumbnail(&rt)?;
+    values_made_counted_and_shown(&rt)
+}
+
+#[test]
+fn what_the_guides_read_of_others(rt: HostRuntime) -> Result<(), Fail> {
+    a_damaged_picture(&rt)?;
+    a_picture_of_a_stranger(&rt)
+}
+
+#[test]
+fn what_the_guides_write(rt: HostRuntime) -> Result<(), Fail> {
+    new_data(&rt)?;
+    what_was_read_written_again(&rt)
+}
+
+#[test]
+fn what_the_guides_change(rt: HostRuntime) -> Result<(), Fail> {
+    an_orientation_set(&rt)?;
+    a_location_erased(&rt)?;
+    fields_without_a_location(&rt)?;
+    a_picture_without_metadata(&rt)
 }

@@ -1,8 +1,8 @@
-//! Sources that read at an offset, and HEIF files whose media come first.
+//! Sources that read at an offset, and how few calls a HEIF file takes whose media come first.
 
 use crate::tests::devices::seeking;
 use exif_base::{Blocks, Counted, Seekable, Source, discard_exact, read8};
-use exif_containers::{exif_attr_of_stream, isobmff};
+use exif_containers::exif_attr_of_stream;
 use exif_types::Error;
 use std::alloc::{AllocError, Global};
 use std::io::{Cursor, ErrorKind};
@@ -48,81 +48,43 @@ fn reads_at<R: Source>(rt: &impl Abort, source: &mut R, offset: u64, digit: u8) 
     assert!(rt; found == Some(1) && byte[0] == digit);
 }
 
-#[test]
-fn a_source_that_seeks_reads_at_an_offset(rt: HostRuntime) {
+/// A source that seeks does, and stays where it is.
+fn seeks_back(rt: &impl Abort) {
     let mut source = Seekable::new(Cursor::new(DIGITS));
-    discard_exact(&mut source, 3).expect(&rt, "three digits");
-    reads_at(&rt, &mut source, 7, b'7');
-    let found = source.fetch_at(10, &mut [0]).expect(&rt, "the end");
+    discard_exact(&mut source, 3).expect(rt, "three digits");
+    reads_at(rt, &mut source, 7, b'7');
+    let found = source.fetch_at(10, &mut [0]).expect(rt, "the end");
     assert!(rt; found == Some(0));
     assert!(rt; source.offset() == Some(3));
-    reads(&rt, &mut source, b'3');
+    reads(rt, &mut source, b'3');
 }
 
-#[test]
-fn a_source_that_only_reads_does_not(rt: HostRuntime) {
+/// One that only reads does not, and says so.
+fn only_reads(rt: &impl Abort) {
     let mut source = Counted::new(DIGITS);
     assert!(rt; source.offset().is_none());
-    let found = source.fetch_at(0, &mut [0]).expect(&rt, "no failure");
+    let found = source.fetch_at(0, &mut [0]).expect(rt, "no failure");
     assert!(rt; found.is_none());
-    reads(&rt, &mut source, b'0');
+    reads(rt, &mut source, b'0');
 }
 
-#[test]
-fn blocks_read_at_an_offset_through_their_source(rt: HostRuntime) {
+/// Blocks do it through their source, and know their own offset where they have read all ahead.
+fn blocks_go_back(rt: &impl Abort) {
     let mut block = *b"xy......";
     let mut source = Seekable::new(Cursor::new(DIGITS));
     let mut blocks = Blocks::new(&mut block, 2, &mut source);
     assert!(rt; blocks.offset().is_none());
-    reads(&rt, &mut blocks, b'x');
-    reads_at(&rt, &mut blocks, 7, b'7');
-    reads(&rt, &mut blocks, b'y');
+    reads(rt, &mut blocks, b'x');
+    reads_at(rt, &mut blocks, 7, b'7');
+    reads(rt, &mut blocks, b'y');
     assert!(rt; blocks.offset() == Some(0));
 }
 
 #[test]
-fn an_item_before_meta_is_read(rt: HostRuntime) -> Result<(), Fail> {
-    let file = media_first(rt.alloc(), 30_000)?;
-    let mut source = Seekable::new(Cursor::new(file.as_slice()));
-    let payload = exif_attr_of_stream(rt.alloc(), &mut source)?;
-    assert!(rt; payload.as_slice() == b"abcd".as_slice());
-    let payload = exif_attr_of_stream(rt.alloc(), &mut Counted::new(file.as_slice()))?;
-    assert!(rt; payload.as_slice() == b"abcd".as_slice());
-    Ok(())
-}
-
-#[test]
-fn offsets_count_from_where_the_source_was(rt: HostRuntime) -> Result<(), Fail> {
-    let mut stream = Vec::from_slice(rt.alloc(), b"...")?;
-    stream.extend_from_slice(media_first(rt.alloc(), 5)?.as_slice())?;
-    let mut source = Seekable::new(Cursor::new(stream.as_slice()));
-    discard_exact(&mut source, 3)?;
-    let payload = isobmff::get_exif_attr(rt.alloc(), &mut source)?;
-    assert!(rt; payload.as_slice() == b"abcd".as_slice());
-    Ok(())
-}
-
-/// Whether two answers are the same data or the same refusal.
-fn is_same(one: Result<Vec<u8>, Error>, other: Result<Vec<u8>, Error>) -> bool {
-    match (one, other) {
-        (Ok(one), Ok(other)) => one.as_slice() == other.as_slice(),
-        (Err(Error::InvalidFormat(one)), Err(Error::InvalidFormat(other))) => one == other,
-        (Err(Error::NotFound(one)), Err(Error::NotFound(other))) => one == other,
-        _ => false,
-    }
-}
-
-#[test]
-fn cut_files_are_refused_alike(rt: HostRuntime) -> Result<(), Fail> {
-    let file = media_first(rt.alloc(), 5)?;
-    for len in 0..=file.len() {
-        let cut = &file[..len];
-        let kept = isobmff::get_exif_attr(rt.alloc(), &mut Counted::new(cut));
-        let mut source = Seekable::new(Cursor::new(cut));
-        let gone_back = isobmff::get_exif_attr(rt.alloc(), &mut source);
-        assert!(rt; is_same(kept, gone_back), "{len}");
-    }
-    Ok(())
+fn which_sources_read_at_an_offset(rt: HostRuntime) {
+    seeks_back(&rt);
+    only_reads(&rt);
+    blocks_go_back(&rt);
 }
 
 #[test]

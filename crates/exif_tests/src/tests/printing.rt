@@ -153,24 +153,17 @@ fn assert_at_every_width<T: Display>(rt: &impl Abort, value: &T, text: &str, sid
     }
 }
 
+// A tag with a name, and the longest one without.
 #[test]
-fn a_tag_with_a_name(rt: HostRuntime) {
+fn tags(rt: HostRuntime) {
     assert_at_every_width(&rt, &Tag::DateTime, "DateTime", Alignment::Left);
-}
-
-#[test]
-fn a_tag_without_a_name(rt: HostRuntime) {
     let longest = Tag(Context::Interop, 65535);
     assert_padded(&rt, &longest, "Tag(Interop, 65535)", Alignment::Left);
 }
 
 #[test]
-fn a_directory(rt: HostRuntime) {
+fn directories(rt: HostRuntime) {
     assert_at_every_width(&rt, &In::PRIMARY, "primary", Alignment::Left);
-}
-
-#[test]
-fn other_directories(rt: HostRuntime) {
     assert_padded(&rt, &In::THUMBNAIL, "thumbnail", Alignment::Left);
     assert_padded(&rt, &In(2), "IFD2", Alignment::Left);
     assert_padded(&rt, &In(65535), "IFD65535", Alignment::Left);
@@ -195,10 +188,9 @@ fn assert_unpadded<T: Display>(rt: &impl Abort, value: &T, text: &str) {
     }
 }
 
-#[test]
-fn a_date(rt: HostRuntime) {
-    let date = DateTime::from_ascii(b"2016:05:04 03:02:01").expect(&rt, "a date");
-    assert_unpadded(&rt, &date, "2016-05-04 03:02:01");
+fn assert_date(rt: &impl Abort) {
+    let date = DateTime::from_ascii(b"2016:05:04 03:02:01").expect(rt, "a date");
+    assert_unpadded(rt, &date, "2016-05-04 03:02:01");
 }
 
 /// A field's value is shown as these texts, without its unit and with it.
@@ -207,14 +199,19 @@ fn assert_value(rt: &impl Abort, field: &Field, text: &str, with_unit: &str) {
     assert_unpadded(rt, &field.display_value().with_unit(()), with_unit);
 }
 
-#[test]
-fn a_value(rt: HostRuntime) {
+fn assert_fraction_with_unit(rt: &(impl Abort + AllocGlobal)) {
     let third = Items::from_slice(rt.alloc(), &[Rational::from((1, 3))]);
     let field = Field {
         tag: Tag::ExposureTime,
         ifd_num: In::PRIMARY,
-        value: Value::Rational(third.expect(&rt, "memory")),
+        value: Value::Rational(third.expect(rt, "memory")),
     };
-    assert_value(&rt, &field, "1/3", "1/3 s");
+    assert_value(rt, &field, "1/3", "1/3 s");
     drop(field);
+}
+
+#[test]
+fn texts_that_no_width_changes(rt: HostRuntime) {
+    assert_date(&rt);
+    assert_fraction_with_unit(&rt);
 }

@@ -1,8 +1,7 @@
-//! Skips of each source: of nothing, to the end, past it, and where a device fails.
+//! Skips of streams that fail, or tell no end, and where a stream is behind a skip.
 
 use super::devices::{one_byte, seeking, without_an_end};
-use exif_base::{Blocks, Counted, ReadFault, Seekable, Source, discard_exact, read_to_end, read8};
-use std::io;
+use exif_base::{Blocks, ReadFault, Seekable, Source, discard_exact, read_to_end, read8};
 use std::io::{Cursor, ErrorKind};
 use std::process::Abort;
 
@@ -39,78 +38,51 @@ fn skips_past_the_end<R: Source>(rt: &impl Abort, source: &mut R) {
     assert!(rt; matches!(read8(source), Err(ReadFault::End)));
 }
 
-/// The kind of the error that a skip of three bytes answers, where it fails.
-fn kind_of_skip<R: Source>(source: &mut R) -> Option<ErrorKind> {
-    source.skip(3).err().map(|e| e.kind())
+#[test]
+fn a_stream_that_tells_no_end_is_read(rt: HostRuntime) {
+    skips_to_the_end(&rt, &mut without_an_end(DIGITS));
+    skips_past_the_end(&rt, &mut without_an_end(DIGITS));
 }
 
-#[test]
-fn a_source_that_only_reads(rt: HostRuntime) {
-    skips_to_the_end(&rt, &mut Counted::new(DIGITS));
-    skips_past_the_end(&rt, &mut Counted::new(DIGITS));
-}
-
-#[test]
-fn a_slow_source(rt: HostRuntime) {
-    skips_to_the_end(&rt, &mut one_byte(DIGITS, 100, ErrorKind::Other));
-    skips_past_the_end(&rt, &mut one_byte(DIGITS, 100, ErrorKind::Other));
-}
-
-#[test]
-fn a_source_of_more_than_a_block(rt: HostRuntime) {
-    let bytes = [7u8; 10_000];
-    let mut source = Counted::new(bytes.as_slice());
-    skips(&rt, &mut source, 9_999, 9_999);
-    skips(&rt, &mut source, 9_999, 1);
-}
-
-#[test]
-fn blocks_skip_what_is_at_hand(rt: HostRuntime) {
-    let mut block = *b"01234...";
-    let mut source = Counted::new(b"56789".as_slice());
-    skips_to_the_end(&rt, &mut Blocks::new(&mut block, 5, &mut source));
-    let mut block = *b"0123456789";
-    let mut source = Counted::new(b"".as_slice());
-    skips_past_the_end(&rt, &mut Blocks::new(&mut block, 10, &mut source));
-}
-
-#[test]
-fn blocks_hand_on_the_rest(rt: HostRuntime) {
+/// A skip past the end through blocks leaves the stream at its end.
+fn stays_at_its_end(rt: &impl Abort) {
     let mut block = *b"01";
     let mut source = Seekable::new(Cursor::new(b"23456789".as_slice()));
-    skips_past_the_end(&rt, &mut Blocks::new(&mut block, 2, &mut source));
+    skips_past_the_end(rt, &mut Blocks::new(&mut block, 2, &mut source));
     assert!(rt; source.into_inner().position() == 8);
 }
 
-#[test]
-fn a_source_that_seeks(rt: HostRuntime) {
-    skips_to_the_end(&rt, &mut Seekable::new(Cursor::new(DIGITS)));
-    skips_past_the_end(&rt, &mut Seekable::new(Cursor::new(DIGITS)));
-    let mut behind = Cursor::new(DIGITS);
-    behind.set_position(20);
-    skips(&rt, &mut Seekable::new(behind), 1, 0);
-}
-
-#[test]
-fn a_source_that_seeks_is_read(rt: HostRuntime) {
+/// What is read behind a skip, to the end, leaves the stream there.
+fn is_read_to_its_end(rt: &(impl Abort + AllocGlobal)) {
     let mut source = Seekable::new(Cursor::new(DIGITS));
-    discard_exact(&mut source, 7).expect(&rt, "seven digits");
+    discard_exact(&mut source, 7).expect(rt, "seven digits");
     let mut rest = Vec::new(rt.alloc());
-    read_to_end(&mut source, &mut rest).expect(&rt, "digits");
+    read_to_end(&mut source, &mut rest).expect(rt, "digits");
     assert!(rt; rest.as_slice() == b"789".as_slice());
     assert!(rt; source.into_inner().position() == 10);
 }
 
 #[test]
-fn a_skip_that_fails(rt: HostRuntime) {
+fn no_skip_goes_past_the_end_of_a_stream(rt: HostRuntime) {
+    stays_at_its_end(&rt);
+    is_read_to_its_end(&rt);
+}
+
+/// The kind of the error that a skip of three bytes answers, where it fails.
+fn kind_of_skip<R: Source>(source: &mut R) -> Option<ErrorKind> {
+    source.skip(3).err().map(|e| e.kind())
+}
+
+/// A skip whose third read fails.
+fn a_read_fails(rt: &impl Abort) {
     let kind = ErrorKind::Interrupted;
     let mut source = one_byte(DIGITS, 2, kind);
     assert!(rt; kind_of_skip(&mut source) == Some(kind));
     assert!(rt; source.into_inner().failures == 1);
 }
 
-#[test]
-fn a_seek_that_fails(rt: HostRuntime) {
+/// A skip of which each of three seeks fails.
+fn a_seek_fails(rt: &impl Abort) {
     let kind = ErrorKind::Interrupted;
     for good_calls in 0..3 {
         let mut source = seeking(DIGITS, good_calls, kind);
@@ -119,16 +91,17 @@ fn a_seek_that_fails(rt: HostRuntime) {
     assert!(rt; kind_of_skip(&mut seeking(DIGITS, 3, kind)) == None);
 }
 
-#[test]
-fn a_stream_that_tells_no_end_is_read(rt: HostRuntime) {
-    skips_to_the_end(&rt, &mut without_an_end(DIGITS));
-    skips_past_the_end(&rt, &mut without_an_end(DIGITS));
-}
-
-#[test]
-fn a_read_that_fails_behind_a_seek(rt: HostRuntime) {
+/// A skip past the end, whose read behind the seeks fails.
+fn a_read_behind_a_seek_fails(rt: &impl Abort) {
     let kind = ErrorKind::UnexpectedEof;
     let mut source = seeking(b"01", 3, kind);
     assert!(rt; kind_of_skip(&mut source) == Some(kind));
     assert!(rt; source.into_inner().failures == 1);
+}
+
+#[test]
+fn a_skip_that_fails(rt: HostRuntime) {
+    a_read_fails(&rt);
+    a_seek_fails(&rt);
+    a_read_behind_a_seek_fails(&rt);
 }

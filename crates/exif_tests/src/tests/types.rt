@@ -1,4 +1,4 @@
-//! Tags, values, fields and dates: constants, debug texts, laws at values, and what a date keeps.
+//! Tags, fields and dates: constants, debug texts, and what a date keeps.
 
 use exif_base::Items;
 use std::process::Abort;
@@ -6,7 +6,6 @@ use std::process::Abort;
 mod constants;
 mod dates;
 mod debug;
-mod laws;
 
 /// A list of these.
 pub fn list<T: Copy>(rt: &(impl Abort + AllocGlobal), items: &[T]) -> Items<T> {

@@ -1,12 +1,6 @@
-//! Words that programs are given: what sets a value, and by how much dates are shifted.
+//! By how much dates are shifted, as programs are given it.
 
-use exif_setting::{Assignment, ClockShift};
-
-#[test]
-fn words_that_set_nothing_known(rt: HostRuntime) {
-    assert!(rt; Assignment::parse("Orientatoin=1").is_none());
-    assert!(rt; Assignment::parse("Orientation").is_none());
-}
+use exif_setting::ClockShift;
 
 #[test]
 fn shifts_are_clocks(rt: HostRuntime) {

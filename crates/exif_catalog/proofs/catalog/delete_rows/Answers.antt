@@ -1,6 +1,7 @@
 use Rattle.std.proofs.Common.{◌≡◌, ◌<◌, inl, refl, rules, arith, length, Ok, Err, subst}
 use Rattle.std.proofs.lemmas.List.{take_all}
-use Rattle.exif_catalog.specs.Reading.{Deletes, Steps}
+use Rattle.exif_catalog.specs.Reading.{Deletes}
+use Rattle.exif_catalog_file.specs.Handing.{Steps}
 use Rattle.exif_catalog.proofs.Reading.{deleted_more, deleted_not}
 use Rattle.exif_catalog.proofs.catalog.delete_rows.Goals as goal
 

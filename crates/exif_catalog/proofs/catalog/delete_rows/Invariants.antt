@@ -1,7 +1,8 @@
 use Rattle.std.proofs.Common.{Ok, take}
 use Rattle.sqlite.specs.Held.{state}
 use Rattle.sqlite.specs.State.{HasCleanDisk}
-use Rattle.exif_catalog.specs.Reading.{Deletes, Steps}
+use Rattle.exif_catalog.specs.Reading.{Deletes}
+use Rattle.exif_catalog_file.specs.Handing.{Steps}
 use Rattle.exif_catalog.proofs.catalog.delete_rows.Given as goal
 
 -- the rows of the moves so far are taken away

@@ -2,9 +2,9 @@ use Rattle.std.proofs.Common.{◌≡◌, List, [], ℕ}
 use Rattle.std.specs.BTreeMap.{get_by_text}
 use Rattle.sqlite.specs.Held.{state}
 use Rattle.sqlite.specs.State.{CommitsShowing, HasCleanDisk, Survives}
-use Rattle.exif_catalog.specs.Reading.{known_by, read_rows}
-use Rattle.exif_catalog.specs.Statements.{entry_at}
-use Rattle.exif_catalog.proofs.Streaming.{HasReadSome}
+use Rattle.exif_catalog.specs.Reading.{known_by}
+use Rattle.exif_catalog.specs.Statements.{entry_at, read_rows}
+use Rattle.exif_catalog.proofs.ReadingRows.{HasReadSome}
 use Rattle.exif_catalog.proofs.catalog.read_rows.Given as goal
 
 -- what is known by the rows so far

@@ -2,11 +2,11 @@ use Rattle.std.proofs.Common.{◌≡◌, ◌∙◌, inl, inr, ap, refl, rules, O
 use Rattle.std.specs.BTreeMap.{get_by_text}
 use Rattle.sqlite.specs.Held.{state}
 use Rattle.sqlite.specs.State.{HasCleanDisk}
-use Rattle.exif_catalog.specs.Errors.{database_error}
-use Rattle.exif_catalog.specs.Reading.{ReadsSides, gone_in, new_in, read_hashes}
-use Rattle.exif_catalog.specs.Statements.{hashed_at}
+use Rattle.exif_catalog_file.specs.Errors.{database_error}
+use Rattle.exif_catalog.specs.Reading.{ReadsSides, gone_in, new_in}
+use Rattle.exif_catalog.specs.Statements.{hashed_at, read_hashes}
 use Rattle.exif_catalog.proofs.Reading.{flat_more}
-use Rattle.exif_catalog.proofs.Streaming.{read_all, read_fails, read_none, read_on, read_refused}
+use Rattle.exif_catalog.proofs.ReadingRows.{read_all, read_fails, read_none, read_on, read_refused}
 use Rattle.exif_catalog.proofs.hashes.read_sides.Goals as goal
 
 pub returns-in_err-answer-clause-refused : goal.returns-in_err-answer-clause-refused

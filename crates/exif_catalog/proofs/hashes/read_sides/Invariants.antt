@@ -3,9 +3,9 @@ use Rattle.std.specs.BTreeMap.{get_by_text}
 use Rattle.std.specs.Prelude.{flat_map}
 use Rattle.sqlite.specs.Held.{state}
 use Rattle.sqlite.specs.State.{CommitsShowing, HasCleanDisk, Survives}
-use Rattle.exif_catalog.specs.Reading.{gone_in, hashed_parts, new_in, read_hashes}
-use Rattle.exif_catalog.specs.Statements.{hashed_at}
-use Rattle.exif_catalog.proofs.Streaming.{HasReadSome}
+use Rattle.exif_catalog.specs.Reading.{gone_in, hashed_parts, new_in}
+use Rattle.exif_catalog.specs.Statements.{hashed_at, read_hashes}
+use Rattle.exif_catalog.proofs.ReadingRows.{HasReadSome}
 use Rattle.exif_catalog.proofs.hashes.read_sides.Given as goal
 
 -- the pictures of the rows so far

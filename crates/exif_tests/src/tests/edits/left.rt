@@ -32,17 +32,9 @@ fn may_have_more(alloc: Global, count: usize) -> Result<bool, AllocError> {
 }
 
 #[test]
-fn a_pointer_out_of_the_data(rt: HostRuntime) {
+fn pointers_that_are_not_followed(rt: HostRuntime) {
     assert!(rt; are_left(rt.alloc(), OUTSIDE, &[200], false));
-}
-
-#[test]
-fn one_of_two_pointers(rt: HostRuntime) {
     assert!(rt; are_left(rt.alloc(), ONE_OF_TWO, &[4000], false));
-}
-
-#[test]
-fn as_many_pointers_as_are_followed(rt: HostRuntime) {
     assert!(rt; matches!(may_have_more(rt.alloc(), 256), Ok(true)));
     assert!(rt; matches!(may_have_more(rt.alloc(), 255), Ok(false)));
 }

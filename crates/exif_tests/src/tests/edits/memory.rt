@@ -102,34 +102,34 @@ fn refusals(alloc: Global, edit: &Edit, wanted: &[u8]) -> Result<[u16; 4], Fail>
     Ok(counts)
 }
 
-#[test]
-fn a_value_runs_out_of_memory(rt: HostRuntime) -> Result<(), Fail> {
+// Whether memory runs out in each form of an edit that is to give these bytes.
+fn runs_out(alloc: Global, edit: &Edit, wanted: &[u8]) -> Result<bool, Fail> {
+    let counts = refusals(alloc, edit, wanted)?;
+    Ok(counts.iter().all(|count| *count > 0))
+}
+
+// The same of a description that is set.
+fn setting_runs_out(alloc: Global) -> Result<bool, Fail> {
     let edit = Edit::Set {
         tag: DESCRIPTION,
         ifd_num: In(0),
-        value: text(rt.alloc(), b"Blue")?,
+        value: text(alloc, b"Blue")?,
     };
-    let counts = refusals(rt.alloc(), &edit, SET);
+    let answer = runs_out(alloc, &edit, SET);
     drop(edit);
-    assert!(rt; counts?.iter().all(|count| *count > 0));
-    Ok(())
+    answer
 }
 
 #[test]
-fn erasing_gps_runs_out_of_memory(rt: HostRuntime) -> Result<(), Fail> {
-    let counts = refusals(rt.alloc(), &Edit::EraseGps, NOWHERE)?;
-    assert!(rt; counts.iter().all(|count| *count > 0));
-    Ok(())
-}
-
-#[test]
-fn a_field_runs_out_of_memory(rt: HostRuntime) -> Result<(), Fail> {
+fn edits_run_out_of_memory(rt: HostRuntime) -> Result<(), Fail> {
+    let alloc = rt.alloc();
+    assert!(rt; setting_runs_out(alloc)?);
+    assert!(rt; runs_out(alloc, &Edit::EraseGps, NOWHERE)?);
     let edit = Edit::EraseField {
         tag: DESCRIPTION,
         ifd_num: In(0),
     };
-    let counts = refusals(rt.alloc(), &edit, UNDESCRIBED)?;
-    assert!(rt; counts.iter().all(|count| *count > 0));
+    assert!(rt; runs_out(alloc, &edit, UNDESCRIBED)?);
     Ok(())
 }
 

@@ -6,8 +6,6 @@ use exif_edit::{Edit, Error, Patch, patches_in, patches_of};
 use exif_test_support::files::{DESCRIBED_BIG, JPEG, OFFSET_BEFORE_DESCRIPTION};
 use exif_types::{Context, In, Tag};
 use std::alloc::{AllocError, Global};
-use std::process::Abort;
-use std::test::Fail;
 
 // A width, a program's name at 50, four bytes of any meaning, and a second directory at 57.
 const THREE: &[u8] =
@@ -63,12 +61,6 @@ fn sets_by(alloc: Global, new: &[u8], at: &[u64], wanted: &[u8]) -> Result<bool,
     Ok(are_these(alloc, patches?.as_slice(), at, wanted)?)
 }
 
-#[test]
-fn a_value_and_the_end_of_its_entry(rt: HostRuntime) {
-    let wanted: &[u8] = b"Blue\0\0\0\0\x02\0\0\0\x05\0\0\0\x1a";
-    assert!(rt; is_so(sets_by(rt.alloc(), b"Blue", &[26, 12], wanted)));
-}
-
 // The same of a description in a file.
 fn sets_in_file_by(
     alloc: Global,
@@ -84,21 +76,22 @@ fn sets_in_file_by(
     Ok(are_these(alloc, patches?.as_slice(), at, wanted)?)
 }
 
-#[test]
-fn the_same_in_a_file(rt: HostRuntime) {
-    // The data begin at 12.
-    let wanted: &[u8] = b"Blue\0\0\0\0\x02\0\0\0\x05\0\0\0\x1a";
-    assert!(rt; is_so(sets_in_file_by(rt.alloc(), JPEG, In(0), b"Blue", &[38, 24], wanted)));
+// The bytes of the patches that set a shorter description. The data of the JPEG file begin at 12.
+const SET_BLUE: &[u8] = b"Blue\0\0\0\0\x02\0\0\0\x05\0\0\0\x1a";
+
+// Whether those of an entry behind a copy of it are at its own offset. It is at 46 of the data. Its
+// value is in it, and stays what it is.
+fn sets_behind_a_copy(alloc: Global) -> Result<bool, Error> {
+    let file = joined(alloc)?;
+    let wanted: &[u8] = b"\0\x02\0\0\0\x02p\0\0\0";
+    sets_in_file_by(alloc, file.as_slice(), In(1), b"p", &[126], wanted)
 }
 
 #[test]
-fn an_entry_behind_a_copy_of_it(rt: HostRuntime) -> Result<(), Fail> {
-    // The entry is at 46 of the data. Its value is in it, and stays what it is.
-    let file = joined(rt.alloc())?;
-    let wanted: &[u8] = b"\0\x02\0\0\0\x02p\0\0\0";
-    let bytes = file.as_slice();
-    assert!(rt; is_so(sets_in_file_by(rt.alloc(), bytes, In(1), b"p", &[126], wanted)));
-    Ok(())
+fn patches_of_files_count_from_their_first_byte(rt: HostRuntime) {
+    let alloc = rt.alloc();
+    assert!(rt; is_so(sets_in_file_by(alloc, JPEG, In(0), b"Blue", &[38, 24], SET_BLUE)));
+    assert!(rt; is_so(sets_behind_a_copy(alloc)));
 }
 
 // The offset and the length of each patch that erases the program's name.
@@ -114,7 +107,9 @@ fn erases_by(alloc: Global, first: (u64, usize), second: (u64, usize)) -> Result
     }
 }
 
+// A value and the end of its entry are set; a directory and a value are erased.
 #[test]
-fn a_directory_and_a_value(rt: HostRuntime) {
+fn patches_of_data(rt: HostRuntime) {
+    assert!(rt; is_so(sets_by(rt.alloc(), b"Blue", &[26, 12], SET_BLUE)));
     assert!(rt; is_so(erases_by(rt.alloc(), (8, 42), (50, 7))));
 }

@@ -35,17 +35,16 @@ fn setting_in_heif(alloc: Global, edit: &Edit) -> Outcome {
     refused(answer, &file[..] == HEIF)
 }
 
-#[test]
-fn an_item_that_says_where_it_is(rt: HostRuntime) -> Result<(), Fail> {
+// In how many calls memory runs out that set an item which says where it is.
+fn refused_in_heif(alloc: Global) -> Result<u16, Fail> {
     let edit = Edit::Set {
         tag: DESCRIPTION,
         ifd_num: In(0),
-        value: text(rt.alloc(), b"Sample")?,
+        value: text(alloc, b"Sample")?,
     };
-    let count = in_turn(rt.alloc(), || setting_in_heif(rt.alloc(), &edit));
+    let count = in_turn(alloc, || setting_in_heif(alloc, &edit));
     drop(edit);
-    assert!(rt; count? > 0);
-    Ok(())
+    Ok(count?)
 }
 
 // A resolution and an altitude, whose values are the same eight bytes.
@@ -77,13 +76,6 @@ fn erasing_shared(alloc: Global) -> Outcome {
     refused(answer, &bytes[..] == SAME_VALUE)
 }
 
-#[test]
-fn shared_gps_data_are_put_back(rt: HostRuntime) -> Result<(), Fail> {
-    let count = in_turn(rt.alloc(), || erasing_shared(rt.alloc()))?;
-    assert!(rt; count > 0);
-    Ok(())
-}
-
 // What setting a width comes to that is something else too.
 fn setting_shared(alloc: Global, edit: &Edit) -> Outcome {
     let mut bytes = [0u8; 38];
@@ -92,15 +84,23 @@ fn setting_shared(alloc: Global, edit: &Edit) -> Outcome {
     refused(answer, &bytes[..] == OVERLAPPING)
 }
 
-#[test]
-fn a_shared_value_is_put_back(rt: HostRuntime) -> Result<(), Fail> {
+// In how many calls memory runs out that set a shared width.
+fn refused_of_shared(alloc: Global) -> Result<u16, Fail> {
     let edit = Edit::Set {
         tag: Tag(Context::Tiff, 0x100),
         ifd_num: In(0),
-        value: Value::Short(Items::from_slice(rt.alloc(), &[7])?),
+        value: Value::Short(Items::from_slice(alloc, &[7])?),
     };
-    let count = in_turn(rt.alloc(), || setting_shared(rt.alloc(), &edit));
+    let count = in_turn(alloc, || setting_shared(alloc, &edit));
     drop(edit);
-    assert!(rt; count? > 0);
+    Ok(count?)
+}
+
+#[test]
+fn what_is_refused_is_put_back(rt: HostRuntime) -> Result<(), Fail> {
+    let alloc = rt.alloc();
+    assert!(rt; refused_in_heif(alloc)? > 0);
+    assert!(rt; in_turn(alloc, || erasing_shared(alloc))? > 0);
+    assert!(rt; refused_of_shared(alloc)? > 0);
     Ok(())
 }

@@ -44,28 +44,32 @@ fn is_found_behind(rt: &(impl Abort + AllocGlobal), head: &[u8]) -> Result<(), F
     gives(rt, Container::Jpeg, bytes.as_slice(), b"Z")
 }
 
-#[test]
-fn long_segments_are_skipped(rt: HostRuntime) -> Result<(), Fail> {
-    is_found_behind(&rt, b"\xff\xd8\xff\xe0\xea\x62")?;
-    is_found_behind(&rt, b"\xff\xd8\xff\xe1\xea\x62")
+fn long_segments_are_skipped(rt: &(impl Abort + AllocGlobal)) -> Result<(), Fail> {
+    is_found_behind(rt, b"\xff\xd8\xff\xe0\xea\x62")?;
+    is_found_behind(rt, b"\xff\xd8\xff\xe1\xea\x62")
 }
 
 const LONG_CHUNK: &[u8] = b"RIFF\xb7\x86\x01\0WEBPwhat\xa0\x86\x01\0";
 
-#[test]
-fn long_chunks_are_skipped(rt: HostRuntime) -> Result<(), Fail> {
-    let bytes = around_spaces(&rt, LONG_CHUNK, 100_000, b"EXIF\x03\0\0\0abc");
-    gives(&rt, Container::WebP, bytes.as_slice(), b"abc")
+fn long_chunks_are_skipped(rt: &(impl Abort + AllocGlobal)) -> Result<(), Fail> {
+    let bytes = around_spaces(rt, LONG_CHUNK, 100_000, b"EXIF\x03\0\0\0abc");
+    gives(rt, Container::WebP, bytes.as_slice(), b"abc")
 }
 
 // The boxes in front of 100,000 spaces and three bytes of Exif data (ISO/IEC 14496-12:2015, 8.11).
 const HEIF_WITH_A_GAP: &[u8] =
     b"\0\0\0\x14ftypmif1\0\0\0\0mif1\0\0\0\x4dmeta\0\0\0\0\0\0\0\x23iinf\0\0\0\0\0\x01\0\0\0\x15infe\x02\0\0\0\0\x01\0\0Exif\0\0\0\0\x1eiloc\0\0\0\0\x44\0\0\x01\0\x01\0\0\0\x01\0\x01\x87\x09\0\0\0\x07\0\x01\x86\xafmdat";
 
+fn a_long_gap_is_skipped(rt: &(impl Abort + AllocGlobal)) -> Result<(), Fail> {
+    let bytes = around_spaces(rt, HEIF_WITH_A_GAP, 100_000, b"\0\0\0\0abc");
+    gives(rt, Container::Heif, bytes.as_slice(), b"abc")
+}
+
 #[test]
-fn a_long_gap_in_front_of_an_item_is_skipped(rt: HostRuntime) -> Result<(), Fail> {
-    let bytes = around_spaces(&rt, HEIF_WITH_A_GAP, 100_000, b"\0\0\0\0abc");
-    gives(&rt, Container::Heif, bytes.as_slice(), b"abc")
+fn what_is_skipped_takes_no_memory(rt: HostRuntime) -> Result<(), Fail> {
+    long_segments_are_skipped(&rt)?;
+    long_chunks_are_skipped(&rt)?;
+    a_long_gap_is_skipped(&rt)
 }
 
 // What a strict reader reads with 30,000 bytes of memory left.
@@ -116,13 +120,6 @@ static JPEG_REFUSED: [Refused; 5] = [
     (b"\xff\xd8\xff\xe1\0\x04ab\xff\xd9", "JPEG"),
 ];
 
-#[test]
-fn jpeg_streams_are_refused_without_memory(rt: HostRuntime) {
-    for (bytes, text) in JPEG_REFUSED {
-        is_refused(&rt, Container::Jpeg, bytes, text);
-    }
-}
-
 static WEBP_REFUSED: [Refused; 5] = [
     (b"RIFX\x04\0\0\0WEBP", "Not a WebP file"),
     (b"RIFF\x03\0\0\0WEBP", "Invalid header file size"),
@@ -135,7 +132,10 @@ static WEBP_REFUSED: [Refused; 5] = [
 ];
 
 #[test]
-fn webp_files_are_refused_without_memory(rt: HostRuntime) {
+fn files_are_refused_without_memory(rt: HostRuntime) {
+    for (bytes, text) in JPEG_REFUSED {
+        is_refused(&rt, Container::Jpeg, bytes, text);
+    }
     for (bytes, text) in WEBP_REFUSED {
         is_refused(&rt, Container::WebP, bytes, text);
     }

@@ -153,26 +153,30 @@ fn is_refused(rt: &(impl Abort + AllocGlobal), writer: &mut Writer, text: &str) 
     assert!(rt; found == Some(text));
 }
 
-#[test]
-fn no_directory_is_refused_without_memory(rt: HostRuntime) {
+fn no_directory_is_refused(rt: &(impl Abort + AllocGlobal)) {
     let mut writer = Writer::new(rt.alloc());
-    is_refused(&rt, &mut writer, "At least one IFD must exist");
+    is_refused(rt, &mut writer, "At least one IFD must exist");
 }
 
-#[test]
-fn unknown_values_are_refused_without_memory(rt: HostRuntime) {
+fn unknown_values_are_refused(rt: &(impl Abort + AllocGlobal)) {
     let unknown = Value::Unknown(65535, 1, 18);
     let mut fields = Vec::new(rt.alloc());
     let pushed = fields.push(field(Tag::ImageWidth, In::PRIMARY, unknown));
-    pushed.expect(&rt, "memory");
-    let mut writer = writer_with(&rt, fields.as_slice());
-    is_refused(&rt, &mut writer, "Cannot write unknown field types");
+    pushed.expect(rt, "memory");
+    let mut writer = writer_with(rt, fields.as_slice());
+    is_refused(rt, &mut writer, "Cannot write unknown field types");
+}
+
+fn empty_directories_are_refused(rt: &(impl Abort + AllocGlobal)) {
+    let mut writer = with_thumbnail(rt, &[]);
+    is_refused(rt, &mut writer, "IFD must not be empty");
 }
 
 #[test]
-fn empty_directories_are_refused_without_memory(rt: HostRuntime) {
-    let mut writer = with_thumbnail(&rt, &[]);
-    is_refused(&rt, &mut writer, "IFD must not be empty");
+fn writers_are_refused_without_memory(rt: HostRuntime) {
+    no_directory_is_refused(&rt);
+    unknown_values_are_refused(&rt);
+    empty_directories_are_refused(&rt);
 }
 
 // The directory of a strip of 40,000 bytes.

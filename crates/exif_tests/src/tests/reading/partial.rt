@@ -1,7 +1,7 @@
 //! Partial results, and what becomes of them.
 
 use exif::{Error, Exif};
-use exif_test_support::answers::{debugs, is_refused, reads, shows};
+use exif_test_support::answers::{debugs, is_refused, reads};
 use exif_test_support::files;
 use exif_test_support::readings::{raw_answer, reader_of};
 use std::alloc::Global;
@@ -46,14 +46,14 @@ fn is_told(alloc: Global, error: &Error) -> Result<(), Fail> {
     debugs(alloc, error, PARTIAL)
 }
 
-#[test]
-fn faults_are_handed_over(rt: HostRuntime) -> Result<(), Fail> {
+// The fault of a partial result is handed over.
+fn is_handed_over(rt: &(impl Abort + AllocGlobal)) -> Result<(), Fail> {
     let alloc = rt.alloc();
     match lenient(alloc, files::CUT_DIRECTORY) {
         Ok(_exif) => Err(Fail::new("no fault was found")),
         Err(error) => {
             let answer = is_told(alloc, &error);
-            is_distilled(&rt, error, 1, 1);
+            is_distilled(rt, error, 1, 1);
             answer
         }
     }
@@ -66,27 +66,16 @@ fn comes_back(rt: &(impl Abort + AllocGlobal), error: Error, text: &str) -> Resu
     is_refused(rt.alloc(), answer, text)
 }
 
-#[test]
-fn another_error_comes_back(rt: HostRuntime) -> Result<(), Fail> {
+// Another error is not.
+fn another_comes_back(rt: &(impl Abort + AllocGlobal)) -> Result<(), Fail> {
     match lenient(rt.alloc(), &files::NOTHING[..7]) {
         Ok(_exif) => Err(Fail::new("a header was taken")),
-        Err(error) => comes_back(&rt, error, "Truncated TIFF header"),
+        Err(error) => comes_back(rt, error, "Truncated TIFF header"),
     }
 }
 
 #[test]
-fn texts_of_errors(rt: HostRuntime) -> Result<(), Fail> {
-    let alloc = rt.alloc();
-    let directory = "Truncated IFD";
-    shows(alloc, Error::InvalidFormat(directory), directory)?;
-    shows(alloc, Error::from("Broken JPEG file"), "Broken JPEG file")?;
-    shows(alloc, Error::NotFound("JPEG"), "No Exif data found in JPEG")?;
-    let date = "DateTime is blank";
-    shows(alloc, Error::BlankValue(date), date)?;
-    shows(alloc, Error::TooBig("Offset too large"), "Offset too large")?;
-    let external = "External data reference is not supported";
-    shows(alloc, Error::NotSupported(external), external)?;
-    let unsigned = "Not unsigned integer";
-    shows(alloc, Error::UnexpectedValue(unsigned), unsigned)?;
-    shows(alloc, Error::OutOfMemory, "Out of memory")
+fn faults_are_handed_over(rt: HostRuntime) -> Result<(), Fail> {
+    is_handed_over(&rt)?;
+    another_comes_back(&rt)
 }

@@ -1,6 +1,5 @@
 //! Tags by name.
 
-use super::super::assert_shown;
 use exif_types::{Context, Tag};
 use std::process::Abort;
 
@@ -176,9 +175,14 @@ static GPS: [(Tag, &str); 37] = named![
     RelatedImageLength
 ];
 
+fn assert_name(rt: &(impl Abort + AllocGlobal), tag: Tag, name: &str) {
+    let shown = format!(in rt.alloc(); "{tag}").expect(rt, "memory");
+    assert!(rt; shown.as_str() == name, "{name}");
+}
+
 fn assert_names(rt: &(impl Abort + AllocGlobal), named: &[(Tag, &str)]) {
     for (tag, name) in named {
-        assert_shown(rt, *tag, *name);
+        assert_name(rt, *tag, *name);
     }
 }
 

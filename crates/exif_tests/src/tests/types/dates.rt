@@ -2,7 +2,6 @@
 
 use exif_datetime::DateTime;
 use exif_types::Error;
-use std::alloc::AllocError;
 use std::process::Abort;
 
 fn assert_refused(
@@ -48,18 +47,8 @@ fn date_of(rt: &impl Abort, text: &[u8]) -> DateTime {
     DateTime::from_ascii(text).expect(rt, "a date")
 }
 
-// The debug text of the date behind its offset.
-fn assert_debug(rt: &(impl Abort + AllocGlobal), date: &DateTime) -> Result<(), AllocError> {
-    let shown = format!(in rt.alloc(); "{date:?}")?;
-    assert!(rt;
-        shown.as_str()
-            == "DateTime { year: 2016, month: 5, day: 4, hour: 3, minute: 2, second: 1, nanosecond: None, offset: Some(-6039) }"
-    );
-    Ok(())
-}
-
 #[test]
-fn what_is_refused_changes_nothing(rt: HostRuntime) -> Result<(), AllocError> {
+fn what_is_refused_changes_nothing(rt: HostRuntime) {
     let mut date = date_of(&rt, b"2016:05:04 03:02:01");
     read_subsecs(&rt, &mut date);
     read_offsets(&rt, &mut date);
@@ -67,6 +56,5 @@ fn what_is_refused_changes_nothing(rt: HostRuntime) -> Result<(), AllocError> {
     assert_refused(&rt, date.parse_subsec(b"12x"), false, "Not a number");
     assert!(rt; date.nanosecond == Some(987000) && date.offset == Some(-6039));
     date.parse_subsec(b" ").expect(&rt, "parts of a second");
-    assert!(rt; date.nanosecond == None);
-    assert_debug(&rt, &date)
+    assert!(rt; date.nanosecond == None && date.offset == Some(-6039));
 }

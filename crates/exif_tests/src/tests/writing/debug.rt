@@ -5,6 +5,7 @@ use exif::experimental::Writer;
 use exif::{In, Items, Tag, Value};
 use exif_test_support::answers::debugs;
 use exif_test_support::writings::{field, put_jpeg, put_strips, put_tiles};
+use std::alloc::Global;
 use std::test::Fail;
 
 const NOTHING: &str = "Writer { alloc: Global, ifds: [] }";
@@ -15,25 +16,28 @@ const FIELDS: &str =
 const BLOCKS: &str =
     "Writer { alloc: Global, ifds: [Ifd { tiff: [], exif: [], gps: [], interop: [], strips: Some([[65]]), tiles: Some([]), jpeg: Some([255, 216]) }] }";
 
-#[test]
-fn a_writer_of_nothing(rt: HostRuntime) -> Result<(), Fail> {
-    debugs(rt.alloc(), &Writer::new(rt.alloc()), NOTHING)
+fn a_writer_of_nothing(alloc: Global) -> Result<(), Fail> {
+    debugs(alloc, &Writer::new(alloc), NOTHING)
 }
 
-#[test]
-fn a_writer_of_fields(rt: HostRuntime) -> Result<(), Fail> {
-    let alloc = rt.alloc();
+fn a_writer_of_fields(alloc: Global) -> Result<(), Fail> {
     let width = Value::Short(Items::from_slice(alloc, &[20])?);
     let fields = list_of(alloc, field(Tag::ImageWidth, In::PRIMARY, width))?;
     let writer = writer_with(alloc, fields.as_slice())?;
     debugs(alloc, &writer, FIELDS)
 }
 
-#[test]
-fn a_writer_of_blocks(rt: HostRuntime) -> Result<(), Fail> {
-    let mut writer = Writer::new(rt.alloc());
+fn a_writer_of_blocks(alloc: Global) -> Result<(), Fail> {
+    let mut writer = Writer::new(alloc);
     put_strips(&mut writer, &[b"A"], In::PRIMARY)?;
     put_tiles(&mut writer, &[], In::PRIMARY)?;
     put_jpeg(&mut writer, b"\xff\xd8", In::PRIMARY)?;
-    debugs(rt.alloc(), &writer, BLOCKS)
+    debugs(alloc, &writer, BLOCKS)
+}
+
+#[test]
+fn debug_texts_of_writers(rt: HostRuntime) -> Result<(), Fail> {
+    a_writer_of_nothing(rt.alloc())?;
+    a_writer_of_fields(rt.alloc())?;
+    a_writer_of_blocks(rt.alloc())
 }

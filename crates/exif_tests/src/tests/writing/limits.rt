@@ -9,6 +9,7 @@ use exif_test_support::writings::{
     counted_write, descriptions, field, image, push_all, put_strips,
 };
 use std::alloc::{AllocError, Global};
+use std::process::Abort;
 use std::test::Fail;
 
 // Nothing is sent, for a reason.
@@ -36,8 +37,8 @@ fn crowded<'a>(alloc: Global, fields: &'a [Field], times: u32) -> Result<Writer<
     Ok(writer)
 }
 
-#[test]
-fn as_many_fields_as_a_count_can_say(rt: HostRuntime) -> Result<(), Fail> {
+// As many fields as a count can say are written.
+fn are_written(rt: &(impl Abort + AllocGlobal)) -> Result<(), Fail> {
     let alloc = rt.alloc();
     let described = descriptions(alloc, &[b"p"])?;
     let mut writer = crowded(alloc, described.as_slice(), 65_535)?;
@@ -45,20 +46,25 @@ fn as_many_fields_as_a_count_can_say(rt: HostRuntime) -> Result<(), Fail> {
     Ok(())
 }
 
-#[test]
-fn one_field_more(rt: HostRuntime) -> Result<(), Fail> {
-    let alloc = rt.alloc();
+// One field more is refused.
+fn one_more_is_refused(alloc: Global) -> Result<(), Fail> {
     let described = descriptions(alloc, &[b"p"])?;
     let mut writer = crowded(alloc, described.as_slice(), 65_536)?;
     is_refused(alloc, &mut writer, "Too many fields in an IFD")
 }
 
-#[test]
-fn too_many_fields_of_an_unknown_type(rt: HostRuntime) -> Result<(), Fail> {
-    let alloc = rt.alloc();
+// So many are refused before their type is.
+fn unknown_ones_are_refused(alloc: Global) -> Result<(), Fail> {
     let strange = list_of(alloc, unknown(In::PRIMARY))?;
     let mut writer = crowded(alloc, strange.as_slice(), 65_536)?;
     is_refused(alloc, &mut writer, "Too many fields in an IFD")
+}
+
+#[test]
+fn as_many_fields_as_a_count_can_say(rt: HostRuntime) -> Result<(), Fail> {
+    are_written(&rt)?;
+    one_more_is_refused(rt.alloc())?;
+    unknown_ones_are_refused(rt.alloc())
 }
 
 const STRIP: usize = 1 << 20;

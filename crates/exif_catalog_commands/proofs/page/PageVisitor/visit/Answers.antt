@@ -1,5 +1,5 @@
 use Rattle.std.proofs.Common.{rules}
-use Rattle.exif_catalog.specs.Shown.{row_texts}
+use Rattle.exif_catalog_file.specs.Shown.{row_texts}
 use Rattle.exif_catalog_commands.proofs.PageLemmas.{adds_picture}
 use Rattle.exif_catalog_commands.proofs.page.PageVisitor.visit.Goals as goal
 

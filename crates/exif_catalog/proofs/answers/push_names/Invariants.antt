@@ -1,7 +1,0 @@
-use Rattle.std.proofs.Common.{◌≡◌, ◌++◌, take}
-use Rattle.exif_catalog.specs.Cells.{names_line}
-use Rattle.exif_catalog.proofs.answers.push_names.Given as goal
-
--- the names so far
-abbrev pub invariant-loop-i : goal.invariant-loop-i
-invariant-loop-i l = l.line.items ≡ l.initial.line.items ++ names_line (take l.i l.names)

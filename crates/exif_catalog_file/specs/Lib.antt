@@ -1,0 +1,12 @@
+pub mod Errors
+pub mod Text
+pub mod Schema
+pub mod Tables
+pub mod Statements
+pub mod Heads
+pub mod Copies
+pub mod Jobs
+pub mod Cells
+pub mod Handing
+pub mod Shown
+pub mod Examples
