@@ -3,7 +3,7 @@
 ghost use Rattle.std.specs.Prelude.{◌≡◌, ◌∷◌, ◌≤◌, [], length, map, All, IfOk, IfSome};
 ghost use Rattle.std.specs.Option.{option_map};
 ghost use Rattle.exif_inventory.specs.Promises.{EndsIn};
-ghost use Rattle.exif_inventory_heif.specs.Walks.{AreSpans, IsInside};
+ghost use Rattle.exif_inventory_heif.specs.Walks.{IsInside};
 ghost use Rattle.exif_privacy.specs.Files.{heif_part, heif_parts, holds_more, is_tiff, parts_of, tiff_part};
 
 use exif_blanks::blank::{is_blank, span_blank};
@@ -63,11 +63,9 @@ fn heif_part(file: &[u8], judged: bool, span: Span) -> Part
 
 // The parts of a HEIF file with this layout.
 fn layout_parts(alloc: Global, file: &[u8], layout: &Layout) -> Result<Vec<Part>, AllocError>
-    requires ordered { AreSpans 0 layout.now.spans.items (length file.now) }
-    requires inside { All (IsInside (length file.now)) layout.now.spans.items }
-    ensures value { IfOk result (λ parts. parts.items
+    requires { All (IsInside (length file.now)) layout.now.spans.items }
+    ensures { IfOk result (λ parts. parts.items
         ≡ map (heif_part file.now layout.now.judged) layout.now.spans.items) }
-    ensures inside { IfOk result (λ parts. All (EndsIn (length file.now)) parts.items) }
 {
     let mut parts = Vec::with_capacity(alloc, layout.spans.len())?;
     for span in layout.spans.iter() {
@@ -82,10 +80,11 @@ fn heif_parts(alloc: Global, file: &[u8]) -> Result<Option<Vec<Part>>, AllocErro
     ensures inside { IfOk result (λ found. IfSome found
         (λ parts. All (EndsIn (length file.now)) parts.items)) }
 {
-    match layout(alloc, file)? {
-        Some(found) => Ok(Some(layout_parts(alloc, file, &found)?)),
-        None => Ok(None),
-    }
+    let Some(found) = layout(alloc, file)? else {
+        return Ok(None);
+    };
+    let parts = layout_parts(alloc, file, &found)?;
+    Ok(Some(parts))
 }
 
 /// The parts of a JPEG, WebP, PNG, JPEG XL, HEIF or AVIF file in the order of their bytes, and that
