@@ -2,12 +2,11 @@
 use Rattle.std.specs.Prelude.{◌≡◌, ℕ, ◌+◌, nat_lt, Bool, true, false, if◌then◌else◌, List, [], ◌∷◌, drop, length, take, Option, Some, None, Result, Ok, Err}
 use Rattle.std.specs.List.Sorted.{IsNonDecreasingBy, IsPermutation}
 use Rattle.std.specs.Option.{option_map, option_or}
-use Rattle.exif_setting.specs.Thumbnails.{thumbnail_in}
+use Rattle.exif_thumbnails.specs.Places.{thumbnail_in, place_in}
 use Rattle.exif_formats.specs.Cr3.{cr3_thumbnail}
 use Rattle.exif_formats.specs.Formats.{format_in}
 use Rattle.exif_thumbnails.specs.Canon.{cr3_preview}
 use Rattle.exif_thumbnails.specs.Heif.{Found, at, heif_thumbnail, known}
-use Rattle.exif_thumbnails.specs.Places.{place_in}
 use Rattle.exif_thumbnails.specs.Previews.{previews_in}
 use Rattle.exif_thumbnails.specs.Seen.{Shown, cut_off, item, jpeg, too_long}
 use Rattle.exif_thumbnails.specs.Streams.{begins_stream, jpg_from_raw}

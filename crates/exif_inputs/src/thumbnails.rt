@@ -22,10 +22,9 @@ use exif::{Counted, Error, Exif, Seekable};
 use exif_change::{ENTRY_LIMIT, Refusal};
 use exif_formats::raw::cr3::find_thumbnail;
 use exif_formats::{Format, Options, Picture, PictureFormat, read_bytes, read_picture};
-use exif_setting::thumbnail;
 use exif_thumbnails::{
-    HeifThumbnail, Place, Thumbnail, ends_search, jpg_from_raw, place_of, preview_places,
-    read_cr3_preview, read_heif_thumbnail, read_place, whole_stream,
+    HeifThumbnail, Place, Thumbnail, ends_search, held_thumbnail, jpg_from_raw, place_of,
+    preview_places, read_cr3_preview, read_heif_thumbnail, read_place, whole_stream,
 };
 use std::alloc::Global;
 use std::io::{Seek, SeekFrom};
@@ -140,7 +139,7 @@ fn in_data(alloc: Global, exif: &Exif) -> Result<Option<Thumbnail>, Error>
     ensures found { IfOk result (λ found. option_map shown found ≡ data_shown exif.now) }
     ensures memory { IfErr result (λ e. e ≡ OutOfMemory) }
 {
-    match thumbnail(exif) {
+    match held_thumbnail(exif) {
         Some(jpeg) => Ok(Some(Thumbnail::Jpeg(Vec::from_slice(alloc, jpeg)?))),
         None => Ok(None),
     }

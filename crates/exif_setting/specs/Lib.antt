@@ -10,4 +10,3 @@ pub mod SecondExamples
 pub mod SetLaws
 pub mod Setting
 pub mod Shifting
-pub mod Thumbnails

@@ -1,4 +1,4 @@
-//! Values set and dates moved in pictures of every format, in memory; new Exif data; the thumbnail.
+//! Values set and dates moved in pictures of every format, in memory; new Exif data.
 //!
 //! Each call answers the whole new file and what was left undone in it, or a refusal by its cause.
 //! What fits is written where it is; what does not is put behind the data ([`exif_grow`]), or the
@@ -15,7 +15,6 @@ mod pictures;
 mod second;
 pub mod set_laws;
 mod setting;
-mod thumbnails;
 
 pub use dates::Dates;
 pub use exif_assign::Assignment;
@@ -24,4 +23,3 @@ pub use growing::new_data;
 pub use in_place::Sets;
 pub use pictures::{set, set_fields, shift};
 pub use setting::{assigned, set_here};
-pub use thumbnails::thumbnail;

@@ -1,5 +1,5 @@
 -- Where a thumbnail is (Exif 2.32, section 4.5.8), and what is read there.
-use Rattle.std.specs.Prelude.{◌≡◌, ◌<◌, ◌≤◌, ℕ, ◌+◌, List, length, take, drop, Option, Some}
+use Rattle.std.specs.Prelude.{◌≡◌, ◌<◌, ◌≤◌, ℕ, ◌+◌, nat_le, if◌then◌else◌, List, length, take, drop, Option, Some, None}
 use Rattle.std.specs.Option.{option_and_then}
 use Rattle.exif_table.specs.declared.context.Context.TheVariants.{Tiff}
 use Rattle.exif_text.specs.declared.ifd.In.{In}
@@ -31,6 +31,16 @@ place_in exif =
     option_and_then (λ offset. option_and_then (λ len. Some (record { offset = offset; len = len }))
     (number_named exif.fields (record { 0 = Tiff; 1 = 0x202 })))
     (number_named exif.fields (record { 0 = Tiff; 1 = 0x201 }))
+
+-- the bytes at a place, if they are there
+abbrev pub held_at : List ℕ → Place → Option (List ℕ)
+held_at bytes place =
+    if nat_le (place.offset + place.len) (length bytes)
+    then Some (take place.len (drop place.offset bytes)) else None
+
+-- the thumbnail in Exif data that are held whole
+abbrev pub thumbnail_in : ExifContents → Option (List ℕ)
+thumbnail_in exif = option_and_then (held_at exif.buf) (place_in exif)
 
 -- the answer of a place of a file: its bytes, if they are not too many, and all there
 abbrev pub IsReadAt : Place → List ℕ → Thumbnail → Type 0

@@ -1,7 +1,8 @@
 //! Where the Exif data say that a thumbnail is.
 
 ghost use Rattle.std.specs.Prelude.{◌≡◌};
-ghost use Rattle.exif_thumbnails.specs.Places.{number_named, place_in};
+ghost use Rattle.std.specs.Option.{option_map};
+ghost use Rattle.exif_thumbnails.specs.Places.{held_at, number_named, place_in, thumbnail_in};
 
 use exif_types::{Exif, In, Tag};
 
@@ -28,6 +29,27 @@ pub fn place_of(exif: &Exif) -> Option<Place>
         offset: u64::from(offset),
         len: u64::from(len),
     })
+}
+
+/// The JPEG stream of the thumbnail in Exif data that are held whole: the bytes of the data at its
+/// place, if they have them.
+pub fn held_thumbnail(exif: &Exif) -> Option<&[u8]>
+    ensures { option_map (λ bytes. bytes.now) result ≡ thumbnail_in exif.now }
+{
+    let place = place_of(exif)?;
+    held_at(exif.buf(), place)
+}
+
+// The bytes at a place, if they are there.
+fn held_at(bytes: &[u8], place: Place) -> Option<&[u8]>
+    ensures { option_map (λ bytes. bytes.now) result ≡ held_at bytes.now place }
+{
+    let end = place.offset.checked_add(place.len)?;
+    if end <= bytes.len() as u64 {
+        Some(&bytes[place.offset as usize..end as usize])
+    } else {
+        None
+    }
 }
 
 // The number that a field of the second directory holds.
