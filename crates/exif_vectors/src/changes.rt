@@ -6,7 +6,8 @@ use exif::{Sink, Source};
 use exif_change::{Changed, Refusal, Removed, Unread, read};
 use exif_copy::{Selection, Shape, copy_selected};
 use exif_segments::util::read_all;
-use exif_setting::{Assignment, ClockShift, Dates, thumbnail};
+use exif_setting::{Assignment, ClockShift, Dates};
+use exif_thumbnails::held_thumbnail;
 use std::alloc::{AllocError, Global};
 
 /// Reads a file, changes it, and sends what it is then. A refusal sends nothing but the old file.
@@ -122,7 +123,7 @@ fn copied(alloc: Global, case: &Case, old: &[u8]) -> Answer {
 fn thumbnail_of(alloc: Global, file: Vec<u8>) -> Result<Answer, CaseError> {
     match read(alloc, file.as_slice()) {
         Ok(exif) => Ok(Ok(Changed {
-            file: copy_of(alloc, thumbnail(&exif))?,
+            file: copy_of(alloc, held_thumbnail(&exif))?,
             left: Vec::new(alloc),
         })),
         Err(error) => Ok(Err(Refusal::from(error))),
