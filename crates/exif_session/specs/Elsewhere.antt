@@ -1,7 +1,6 @@
 -- Where what was removed from files still is, or is said still, in words.
-use Rattle.std.specs.Prelude.{ℕ, ◌==◌, Bool, true, false, List, [], ◌∷◌, ◌++◌, codes, if◌then◌else◌}
+use Rattle.std.specs.Prelude.{ℕ, ◌==◌, ◌&&◌, Bool, true, false, List, [], ◌∷◌, ◌++◌, codes, if◌then◌else◌}
 use Rattle.std.specs.Fmt.{decimal}
-use Rattle.exif_change.specs.declared.scrubbing.Removed.{Removed}
 use Rattle.exif_change.specs.declared.scrubbing.Removed.TheVariants as removed
 use Rattle.exif_files.specs.declared.changing.Keeping.{Keeping}
 use Rattle.exif_session.specs.declared.elsewhere.Elsewhere as it
@@ -50,23 +49,26 @@ elsewhere_text (Links count) = links_text count
 elsewhere_text (Names count) = names_text count
 elsewhere_text (Times count) = times_text count
 
--- so many of those that were changed, if something holds of each
+-- so many, if something holds of them
 abbrev pub count_if : Bool → ℕ → ℕ
-count_if true changed = changed
-count_if false changed = 0
+count_if true count = count
+count_if false count = 0
 
--- what says a day still: where locations alone were erased, that was not asked for
-abbrev pub dated_elsewhere : Removed → Keeping → ℕ → ℕ → List it.Elsewhere
-dated_elsewhere (removed.Gps unread) keeping changed dated = Names 0 ∷ Times 0 ∷ []
-dated_elsewhere removed.Metadata keeping changed dated =
-    Names dated ∷ Times (count_if keeping.times changed) ∷ []
-dated_elsewhere removed.AllButOrientation keeping changed dated =
-    Names dated ∷ Times (count_if keeping.times changed) ∷ []
+-- whether a change removes metadata
+abbrev pub removes : request.Change → Bool
+removes (change.Scrub what color) = true
+removes other = false
 
--- where what a change has removed is: in backups, if old files are kept, and under other names
+-- whether it removes all of them, and not locations alone
+abbrev pub removes_all : request.Change → Bool
+removes_all (change.Scrub (removed.Gps unread) color) = false
+removes_all (change.Scrub what color) = true
+removes_all other = false
+
+-- where what a change has removed is: in backups, if old files are kept, and under other names; and
+-- what says a day still, where that was to go
 abbrev pub removed_elsewhere : request.Change → Keeping → ℕ → ℕ → ℕ → List it.Elsewhere
-removed_elsewhere (change.Scrub what color) keeping changed linked dated =
-    Backups (count_if keeping.backup changed) ∷ Links linked
-    ∷ dated_elsewhere what keeping changed dated
-removed_elsewhere other keeping changed linked dated =
-    Backups 0 ∷ Links 0 ∷ Names 0 ∷ Times 0 ∷ []
+removed_elsewhere change keeping changed linked dated =
+    Backups (count_if (removes change && keeping.backup) changed) ∷ Links (count_if (removes change) linked)
+    ∷ Names (count_if (removes_all change) dated)
+    ∷ Times (count_if (removes_all change && keeping.times) changed) ∷ []

@@ -2,7 +2,7 @@
 
 ghost use Rattle.std.specs.Prelude.{◌≡◌, Some};
 ghost use Rattle.std.specs.Fmt.{WritesOnOk};
-ghost use Rattle.exif_session.specs.Elsewhere.{backups_text, count_if, elsewhere_count, links_text, names_text, removed_elsewhere, times_text};
+ghost use Rattle.exif_session.specs.Elsewhere.{backups_text, count_if, elsewhere_count, links_text, names_text, removed_elsewhere, removes, removes_all, times_text};
 
 use crate::request::Change;
 use exif_change::Removed;
@@ -103,11 +103,28 @@ impl fmt::Display for Elsewhere {
     }
 }
 
-// How many of the files that were changed are meant, if something holds of each.
-fn count_if(test: bool, changed: u64) -> u64
-    ensures { result ≡ count_if test changed }
+// So many, if something holds of them.
+fn count_if(test: bool, count: u64) -> u64
+    ensures { result ≡ count_if test count }
 {
-    if test { changed } else { 0 }
+    if test { count } else { 0 }
+}
+
+// Whether a change removes metadata.
+fn removes(change: &Change<'_>) -> bool
+    ensures { result ≡ removes change.now }
+{
+    matches!(change, Change::Scrub(..))
+}
+
+// Whether it removes all of them, and not locations alone.
+fn removes_all(change: &Change<'_>) -> bool
+    ensures { result ≡ removes_all change.now }
+{
+    matches!(
+        change,
+        Change::Scrub(Removed::Metadata | Removed::AllButOrientation, _)
+    )
 }
 
 /// Where what a change has removed is: in the backups of so many files that were changed, if the
@@ -122,25 +139,11 @@ pub fn removed_elsewhere(
 ) -> [Elsewhere; 4]
     ensures { result ≡ removed_elsewhere change.now keeping changed linked dated }
 {
-    let Change::Scrub(removed, _) = change else {
-        return [
-            Elsewhere::Backups(0),
-            Elsewhere::Links(0),
-            Elsewhere::Names(0),
-            Elsewhere::Times(0),
-        ];
-    };
-    let backups = count_if(keeping.backup, changed);
-    let (names, times) = match removed {
-        Removed::Metadata | Removed::AllButOrientation => {
-            (dated, count_if(keeping.times, changed))
-        }
-        Removed::Gps(_) => (0, 0),
-    };
+    let (some, all) = (removes(change), removes_all(change));
     [
-        Elsewhere::Backups(backups),
-        Elsewhere::Links(linked),
-        Elsewhere::Names(names),
-        Elsewhere::Times(times),
+        Elsewhere::Backups(count_if(some && keeping.backup, changed)),
+        Elsewhere::Links(count_if(some, linked)),
+        Elsewhere::Names(count_if(all, dated)),
+        Elsewhere::Times(count_if(all && keeping.times, changed)),
     ]
 }
