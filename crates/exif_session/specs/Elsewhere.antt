@@ -68,7 +68,7 @@ removes_all other = false
 -- where what a change has removed is: in backups, if old files are kept, and under other names; and
 -- what says a day still, where that was to go
 abbrev pub removed_elsewhere : request.Change → Keeping → ℕ → ℕ → ℕ → List it.Elsewhere
-removed_elsewhere change keeping changed linked dated =
-    Backups (count_if (removes change && keeping.backup) changed) ∷ Links (count_if (removes change) linked)
-    ∷ Names (count_if (removes_all change) dated)
-    ∷ Times (count_if (removes_all change && keeping.times) changed) ∷ []
+removed_elsewhere asked keeping changed linked dated =
+    Backups (count_if (removes asked && keeping.backup) changed)
+    ∷ Links (count_if (removes asked) linked) ∷ Names (count_if (removes_all asked) dated)
+    ∷ Times (count_if (removes_all asked && keeping.times) changed) ∷ []
