@@ -1,5 +1,5 @@
 -- What becomes of a picture that is scrubbed, by its format.
-use Rattle.std.specs.Prelude.{ℕ, List, [], ◌∷◌, ◌++◌, codes, take, Option, Some, None, Result, Ok, Err}
+use Rattle.std.specs.Prelude.{ℕ, List, [], ◌∷◌, ◌++◌, codes, take, Option, Some, None, Result, Ok, Err, if◌then◌else◌}
 use Rattle.exif_formats.specs.Formats.{format_in}
 use Rattle.exif_formats.specs.declared.format.PictureFormat.{PictureFormat}
 use Rattle.exif_formats.specs.declared.format.PictureFormat.TheVariants as format
