@@ -3,3 +3,4 @@ pub mod Checking
 pub mod Names
 pub mod Json
 pub mod Lines
+pub mod LineExamples
