@@ -5,6 +5,8 @@ pub mod IptcPromises
 pub mod LocationNames
 pub mod NamesExamples
 pub mod Spaced
+pub mod Stray
+pub mod StrayExamples
 pub mod TextNames
 pub mod Texts
 pub mod TextsExamples

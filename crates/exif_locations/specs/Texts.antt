@@ -2,6 +2,7 @@
 use Rattle.std.specs.Prelude.{ℕ, ◌+◌, ◌*◌, ◌==◌, ◌&&◌, ◌||◌, not, Bool, false, if◌then◌else◌, List, [], ◌∷◌, take, codes}
 use Rattle.std.specs.Str.{bytes_eq}
 use Rattle.exif_locations.specs.IptcNumbers.{character_sets, text_numbers, text_records}
+use Rattle.exif_locations.specs.Stray.{has_stray_text}
 use Rattle.exif_locations.specs.TextNames.{no_identifiers, text_names}
 use Rattle.exif_locations.specs.Words.{begins_with, begins_with_one, is_among}
 
@@ -33,11 +34,15 @@ unfoldable pub begins_name : List ℕ → Bool
 begins_name bytes = begins_with_one text_names bytes || begins_identifier bytes
 
 -- an XMP packet has such a name behind the colon of a prefix, a description, or a remark
-abbrev pub xmp_has_texts : List ℕ → Bool
-xmp_has_texts [] = false
-xmp_has_texts (b ∷ bytes) =
+abbrev pub names_texts : List ℕ → Bool
+names_texts [] = false
+names_texts (b ∷ bytes) =
     ((b == 58) && begins_name bytes) || ((b == 60) && begins_remark bytes)
-    || begins_described (b ∷ bytes) || xmp_has_texts bytes
+    || begins_described (b ∷ bytes) || names_texts bytes
+
+-- it has one of these, or text that is no value of a property
+abbrev pub xmp_has_texts : List ℕ → Bool
+xmp_has_texts bytes = has_stray_text bytes || names_texts bytes
 
 -- whether a dataset with a number, behind which its length and value follow, holds more than a
 -- version (two bytes of number 0) or one of these character sets

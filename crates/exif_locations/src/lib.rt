@@ -4,6 +4,7 @@
 
 pub mod iptc;
 mod iptc_numbers;
+mod stray;
 mod text_names;
 pub mod texts;
 pub mod unread;

@@ -1,9 +1,10 @@
 //! Texts, keywords and encoded pictures, in which a location may be named.
 
 ghost use Rattle.std.specs.Prelude.{◌≡◌};
-ghost use Rattle.exif_locations.specs.Texts.{begins_described, begins_identifier, begins_name, begins_remark, begins_text, holds_text, iptc_has_texts, is_rdf, xmp_has_texts};
+ghost use Rattle.exif_locations.specs.Texts.{begins_described, begins_identifier, begins_name, begins_remark, begins_text, holds_text, iptc_has_texts, is_rdf, names_texts, xmp_has_texts};
 
 use crate::iptc_numbers::{character_sets, text_numbers, text_records};
+use crate::stray::has_stray_text;
 use crate::text_names::{no_identifiers, text_names};
 use crate::words::{begins_with, begins_with_one};
 
@@ -53,12 +54,9 @@ fn begins_name(bytes: &[u8]) -> bool
     begins_with_one(text_names(), bytes) || begins_identifier(bytes)
 }
 
-/// Whether an XMP packet has a property that holds what people write of a picture, keywords, names,
-/// an identifier or a picture: a name of one behind the colon of a prefix, wherever that is. So
-/// does one with a `Description` behind another prefix than `rdf`, a comment, character data, or an
-/// instruction that is not that of a packet.
-pub fn xmp_has_texts(packet: &[u8]) -> bool
-    ensures { result ≡ xmp_has_texts packet.now }
+// Whether an XMP packet has the name of a property that holds a text, or a remark.
+fn names_texts(packet: &[u8]) -> bool
+    ensures { result ≡ names_texts packet.now }
 {
     for i in 0..packet.len() {
         let rest = &packet[i + 1..];
@@ -73,6 +71,17 @@ pub fn xmp_has_texts(packet: &[u8]) -> bool
         }
     }
     false
+}
+
+/// Whether an XMP packet has a property that holds what people write of a picture, keywords, names,
+/// an identifier or a picture: a name of one behind the colon of a prefix, wherever that is. So
+/// does one with a `Description` behind another prefix than `rdf`, a comment, character data, an
+/// instruction that is not that of a packet, or text that is no value of a property: outside of
+/// elements, or beside some.
+pub fn xmp_has_texts(packet: &[u8]) -> bool
+    ensures { result ≡ xmp_has_texts packet.now }
+{
+    has_stray_text(packet) || names_texts(packet)
 }
 
 // Whether a dataset with a number, behind which its length and value follow, holds more than a
