@@ -28,9 +28,10 @@ use Rattle.exif_change.specs.declared.codestream.Codestream.TheVariants as codes
 abbrev pub format_of : List ℕ → Option PictureFormat
 format_of file = format_in (take 4096 file)
 
--- raw files are refused
+-- raw files are not scrubbed
 abbrev pub raw_refused : Reason
-raw_refused = reading (not_supported (codes "raw files are not changed; use an XMP sidecar"))
+raw_refused =
+    reading (not_supported (codes "raw files are not changed; export a picture and scrub that"))
 
 -- a PNG file without what is removed
 abbrev pub png_scrubbed : Removed → List ℕ → Result Change Reason

@@ -93,7 +93,7 @@ edit_cause : refusal_text (refusal.Editing edit.FieldNotFound) ≡ Some (codes "
 edit_cause = refl
 
 raw_file : refusal_text (refusal.Tiff tiff.Raw)
-    ≡ Some (codes "raw files are not changed; use an XMP sidecar")
+    ≡ Some (codes "only the locations of a raw file can be taken out; export a picture and scrub that")
 raw_file = refl
 
 heif_file : refusal_text (refusal.Heif heif.Unstable)

@@ -23,7 +23,7 @@ mod scrubbing;
 pub use changed::{Changed, Residual};
 pub use exif_privacy::Unread;
 pub use notes::{Color, Note};
-pub use pictures::{cut_off, no_codestream, raw_refused, scrub, scrub_notes, scrub_with_color};
+pub use pictures::{cut_off, no_codestream, scrub, scrub_notes, scrub_with_color};
 pub use reading::{ENTRY_LIMIT, read};
 pub use refusal::Refusal;
 pub use rewriting::rewritten;

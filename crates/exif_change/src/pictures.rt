@@ -21,11 +21,11 @@ use exif_privacy::Unread;
 use exif_rewrite::without_color_profile;
 use std::alloc::{AllocError, Global};
 
-/// Why raw files are refused.
-pub fn raw_refused() -> Refusal
+// Why raw files are not scrubbed.
+fn raw_refused() -> Refusal
     ensures { why_of result ≡ Some raw_refused }
 {
-    let text = "raw files are not changed; use an XMP sidecar";
+    let text = "raw files are not changed; export a picture and scrub that";
     Refusal::Reading(Error::NotSupported(text))
 }
 

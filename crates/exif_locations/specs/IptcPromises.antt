@@ -1,5 +1,5 @@
 -- What holds of data whose locations were erased.
-use Rattle.std.specs.Prelude.{◌≡◌, ℕ, ◌⊎◌, true, List, [], ◌∷◌, length, Ok}
+use Rattle.std.specs.Prelude.{◌≡◌, ℕ, true, List, length, Ok}
 use Rattle.exif_locations.specs.IptcDatasets.{blank_by, erased}
 use Rattle.exif_locations.specs.Spaced.{IsSpaced}
 

@@ -1,5 +1,5 @@
 -- What holds of packets whose locations were erased.
-use Rattle.std.specs.Prelude.{◌≡◌, ℕ, ◌⊎◌, false, List, [], ◌∷◌, length, Ok}
+use Rattle.std.specs.Prelude.{◌≡◌, ℕ, false, List, length, Ok}
 use Rattle.std.specs.List.{AllByRecursion}
 use Rattle.exif_locations.specs.XmpErasing.{erased, found}
 use Rattle.exif_locations.specs.XmpPieces.{Piece, names_location, pieces, spaced}

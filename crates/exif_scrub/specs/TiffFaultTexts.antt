@@ -9,5 +9,6 @@ fault_text fault.NoHeader = codes "no TIFF header"
 fault_text fault.Broken = codes "data of the picture lead out of the file"
 fault_text fault.TooManyDirectories = codes "too many directories"
 fault_text fault.SharedBytes = codes "data of the picture share bytes with each other"
-fault_text fault.Raw = codes "raw files are not changed; use an XMP sidecar"
+fault_text fault.Raw =
+    codes "only the locations of a raw file can be taken out; export a picture and scrub that"
 fault_text fault.NotSupported = codes "the picture is stored in a way that is not supported"

@@ -1,20 +1,25 @@
 -- What becomes of a picture in which values are set, by its format.
-use Rattle.std.specs.Prelude.{ℕ, List, Option, Some, None, Result, Err}
+use Rattle.std.specs.Prelude.{ℕ, List, codes, Option, Some, None, Result, Err}
 use Rattle.std.specs.List.{list_any}
 use Rattle.exif_assign.specs.declared.assignment.Assignment.{Assignment}
 use Rattle.exif_datetime.specs.declared.shift.ClockShift.{ClockShift}
 use Rattle.exif_formats.specs.declared.format.PictureFormat.{PictureFormat}
 use Rattle.exif_formats.specs.declared.format.PictureFormat.TheVariants as format
+use Rattle.exif_types.specs.Refusals.{not_supported}
 use Rattle.exif_types.specs.declared.field.Field.{Field}
 use Rattle.exif_change.specs.Changed.{Change}
-use Rattle.exif_change.specs.Refusals.{Reason}
+use Rattle.exif_change.specs.Refusals.{Reason, reading}
 use Rattle.exif_setting.specs.declared.dates.Dates.{Dates}
 use Rattle.exif_change.specs.Codestreams.{codestream_of}
 use Rattle.exif_setting.specs.OtherDates.{assigns_date, has_other_dates, is_date_field, leaves_dates, with_other_dates}
 use Rattle.exif_setting.specs.Contained.{data_changed, edited_in}
 use Rattle.exif_setting.specs.Edits.{Edit, the_values, the_fields, the_shift}
 use Rattle.exif_setting.specs.declared.contained.Container.TheVariants as container
-use Rattle.exif_change.specs.Pictures.{by_codestream, format_of, raw_refused}
+use Rattle.exif_change.specs.Pictures.{by_codestream, format_of}
+
+-- nothing is set in raw files
+abbrev pub raw_refused : Reason
+raw_refused = reading (not_supported (codes "raw files are not changed; use an XMP sidecar"))
 
 -- a JPEG XL file with its Exif data changed, if it has a codestream
 abbrev pub jxl_edited : Edit → List ℕ → Result Change Reason

@@ -1,21 +1,30 @@
 //! What programs set in a picture, by its format.
 
+ghost use Rattle.std.specs.Prelude.{◌≡◌, Some};
 ghost use Rattle.exif_change.specs.Changed.{change_of};
 ghost use Rattle.exif_change.specs.Pictures.{format_of};
-ghost use Rattle.exif_change.specs.Refusals.{Answers};
+ghost use Rattle.exif_change.specs.Refusals.{Answers, why_of};
 ghost use Rattle.exif_setting.specs.Edits.{edit_of};
-ghost use Rattle.exif_setting.specs.Pictures.{edited_by, jxl_edited, picture_fields_set, picture_set, picture_shifted};
+ghost use Rattle.exif_setting.specs.Pictures.{edited_by, jxl_edited, picture_fields_set, picture_set, picture_shifted, raw_refused};
 
 use crate::contained::{Container, DataEdit, data_changed, edited};
 use crate::dates::Dates;
 use crate::other_dates::{assigns_date, has_date, has_other_dates, leaves_dates, with_other_dates};
-use exif::Field;
+use exif::{Error, Field};
 use exif_assign::Assignment;
 use exif_change::codestream::{Codestream, codestream_of};
-use exif_change::{Changed, Refusal, cut_off, no_codestream, raw_refused};
+use exif_change::{Changed, Refusal, cut_off, no_codestream};
 use exif_datetime::ClockShift;
 use exif_formats::{PictureFormat, format_of_file};
 use std::alloc::Global;
+
+// Why nothing is set in raw files.
+fn raw_refused() -> Refusal
+    ensures { why_of result ≡ Some raw_refused }
+{
+    let text = "raw files are not changed; use an XMP sidecar";
+    Refusal::Reading(Error::NotSupported(text))
+}
 
 // A JPEG XL file with its Exif data changed, if it has a codestream.
 fn jxl_edited(alloc: Global, edit: DataEdit<'_, '_>, file: Vec<u8>) -> Result<Changed, Refusal>

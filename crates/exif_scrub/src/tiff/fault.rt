@@ -32,7 +32,9 @@ impl fmt::Display for Fault {
             Fault::Broken => "data of the picture lead out of the file",
             Fault::TooManyDirectories => "too many directories",
             Fault::SharedBytes => "data of the picture share bytes with each other",
-            Fault::Raw => "raw files are not changed; use an XMP sidecar",
+            Fault::Raw => {
+                "only the locations of a raw file can be taken out; export a picture and scrub that"
+            }
             Fault::NotSupported => "the picture is stored in a way that is not supported",
         })
     }
