@@ -151,6 +151,7 @@ abbrev pub tiff_status : Fault → Status
 tiff_status fault.NoHeader = status.InvalidFormat
 tiff_status fault.Broken = status.InvalidFormat
 tiff_status fault.TooManyDirectories = status.InvalidFormat
+tiff_status fault.OddTag = status.InvalidFormat
 tiff_status fault.SharedBytes = status.SharedBytes
 tiff_status fault.Raw = status.NotSupported
 tiff_status fault.NotSupported = status.NotSupported

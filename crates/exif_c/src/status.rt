@@ -227,7 +227,9 @@ fn tiff_status(fault: Fault) -> Status
     ensures { result ≡ tiff_status fault }
 {
     match fault {
-        Fault::NoHeader | Fault::Broken | Fault::TooManyDirectories => Status::InvalidFormat,
+        Fault::NoHeader | Fault::Broken | Fault::TooManyDirectories | Fault::OddTag => {
+            Status::InvalidFormat
+        }
         Fault::SharedBytes => Status::SharedBytes,
         Fault::Raw | Fault::NotSupported => Status::NotSupported,
     }

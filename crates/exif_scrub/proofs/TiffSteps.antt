@@ -8,6 +8,7 @@ use Rattle.exif_scrub.specs.Directories.{chain_walked, child_walked, children_fr
 use Rattle.exif_scrub.specs.Entries.{count_of, entry_kept, entry_named, entry_tested, item_at}
 use Rattle.exif_scrub.specs.Keeping.{◌>>=◌, number_in, stretch_visited}
 use Rattle.exif_scrub.specs.Pictures.{strip_visited, strips_from}
+use Rattle.exif_scrub.specs.Shapes.{entries_shaped, entry_shaped}
 use Rattle.exif_scrub.specs.declared.tiff.fault.Fault.{Fault}
 use Rattle.exif_scrub.specs.declared.tiff.fault.Fault.TheVariants.{TooManyDirectories}
 use Rattle.exif_scrub.specs.declared.tiff.pass.Handling.{Handling}
@@ -40,6 +41,18 @@ pub tags_stop : (number : Reading) (old : List ℕ) (o : Bool) (left k e : ℕ) 
     → Err f ≡ entry_tested number old o e → tags_tested number old o left e ≡ Err f
 tags_stop number old o left k e f is test =
     rw is (ap (λ (x : Result Unit Fault). x >>= λ u. tags_tested number old o k (e + 12)) (sym test))
+
+-- ---- values
+
+pub shapes_step : (number : Reading) (old : List ℕ) (o : Bool) (count first left k e next : ℕ) → left ≡ suc k → next ≡ e + 12
+    → Ok tt ≡ entry_shaped number old o count first e → entries_shaped number old o count first left e ≡ entries_shaped number old o count first k next
+shapes_step number old o count first left k e next is at test =
+    rw (is, at) (ap (λ (x : Result Unit Fault). x >>= λ u. entries_shaped number old o count first k (e + 12)) (sym test))
+
+pub shapes_stop : (number : Reading) (old : List ℕ) (o : Bool) (count first left k e : ℕ) (f : Fault) → left ≡ suc k
+    → Err f ≡ entry_shaped number old o count first e → entries_shaped number old o count first left e ≡ Err f
+shapes_stop number old o count first left k e f is test =
+    rw is (ap (λ (x : Result Unit Fault). x >>= λ u. entries_shaped number old o count first k (e + 12)) (sym test))
 
 -- ---- strips
 

@@ -8,6 +8,7 @@ use Rattle.exif_layout.specs.Encoding.{spelled}
 use Rattle.exif_scrub.specs.Entries.{count_of, entry_kept, entry_named, entry_tested, item_at}
 use Rattle.exif_scrub.specs.Keeping.{◌>>=◌, kept_bytes, number_in}
 use Rattle.exif_scrub.specs.Pictures.{picture_visited}
+use Rattle.exif_scrub.specs.Shapes.{entries_shaped}
 use Rattle.exif_scrub.specs.declared.tiff.fault.Fault.{Fault}
 use Rattle.exif_scrub.specs.declared.tiff.fault.Fault.TheVariants.{NotSupported, TooManyDirectories}
 use Rattle.exif_scrub.specs.declared.tiff.pass.Pass.{Pass}
@@ -37,13 +38,20 @@ directory_closed order old keeps_orientation p count (kept, new) =
     >>= λ closed. picture_visited (number_of order) old (Keep keeps_orientation) count (p + 2)
     closed
 
+-- the same, if the values of its entries that stay are those that their tags have
+abbrev pub directory_shaped : Order → List ℕ → Bool → ℕ → ℕ → ℕ × List ℕ
+    → Result (List ℕ) Fault
+directory_shaped order old keeps_orientation p count made =
+    entries_shaped (number_of order) old keeps_orientation count (p + 2) count (p + 2)
+    >>= λ u. directory_closed order old keeps_orientation p count made
+
 -- the new file with a directory and its picture
 abbrev pub directory_kept : Order → List ℕ → Bool → Bool → ℕ → List ℕ → Result (List ℕ) Fault
 directory_kept order old keeps_orientation is_nested p new =
     number_in (number_of order) 2 old p
     >>= λ count. entries_kept (number_of order) old keeps_orientation is_nested (p + 2) count
     (p + 2) 0 new
-    >>= λ made. directory_closed order old keeps_orientation p count made
+    >>= λ made. directory_shaped order old keeps_orientation p count made
 
 -- the new file where a walk comes to the picture of a directory alone
 abbrev pub directory_picture : Reading → List ℕ → Pass → ℕ → List ℕ → Result (List ℕ) Fault
@@ -58,11 +66,12 @@ tags_tested number old keeps_orientation (suc left) e =
     entry_tested number old keeps_orientation e
     >>= λ u. tags_tested number old keeps_orientation left (e + 12)
 
--- the same of a directory
+-- the same of a directory, whose values must be those that their tags have
 abbrev pub directory_tested : Reading → List ℕ → Bool → ℕ → Result Unit Fault
 directory_tested number old keeps_orientation p =
     number_in number 2 old p
     >>= λ count. tags_tested number old keeps_orientation count (p + 2)
+    >>= λ u. entries_shaped number old keeps_orientation count (p + 2) count (p + 2)
 
 -- the new file where a walk comes to a directory
 abbrev pub directory_visited : Order → List ℕ → Pass → Bool → ℕ → List ℕ

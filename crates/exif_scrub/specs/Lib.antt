@@ -5,6 +5,8 @@ pub mod Tags
 pub mod Keeping
 pub mod Entries
 pub mod Pictures
+pub mod Shapes
+pub mod ShapeExamples
 pub mod Directories
 pub mod TiffScrubbing
 pub mod TiffExamples

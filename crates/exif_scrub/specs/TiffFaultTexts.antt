@@ -12,3 +12,5 @@ fault_text fault.SharedBytes = codes "data of the picture share bytes with each 
 fault_text fault.Raw =
     codes "only the locations of a raw file can be taken out; export a picture and scrub that"
 fault_text fault.NotSupported = codes "the picture is stored in a way that is not supported"
+fault_text fault.OddTag =
+    codes "a tag that describes the picture is there twice, or of another type or length"

@@ -12,6 +12,7 @@ mod file;
 pub mod laws;
 mod pass;
 mod picture;
+mod shape;
 mod stream;
 mod tags;
 

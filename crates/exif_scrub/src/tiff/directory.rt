@@ -11,6 +11,7 @@ use crate::tiff::entry::{count_of, entry_named, item_at, keep_entry, test_entry}
 use crate::tiff::fault::Fault;
 use crate::tiff::pass::Pass;
 use crate::tiff::picture::visit_picture;
+use crate::tiff::shape::test_shapes;
 use exif_layout::item::spelled_u16;
 
 // Keeps the entries of a directory that describe its picture, closed up: how many they are.
@@ -53,6 +54,7 @@ fn keep_directory(
     let first = at + 2;
     let kept = keep_entries(old, keeps_orientation, is_nested, count, first, new)?;
     keep(&spelled_u16(old.order, kept), 0, 2, new, at)?;
+    test_shapes(old, keeps_orientation, count, first)?;
     let end = first + 12 * u64::from(count);
     keep(old.bytes, end, 4, new, first + 12 * u64::from(kept))?;
     visit_picture(old, Pass::Keep(keeps_orientation), count, first, new)
@@ -89,7 +91,9 @@ fn test_directory(old: Old<'_>, keeps_orientation: bool, at: u32) -> Result<(), 
         keeps_orientation at }
 {
     let count = old.short(u64::from(at))?;
-    test_tags(old, keeps_orientation, count, u64::from(at) + 2)
+    let first = u64::from(at) + 2;
+    test_tags(old, keeps_orientation, count, first)?;
+    test_shapes(old, keeps_orientation, count, first)
 }
 
 // What a walk does with a directory.

@@ -11,8 +11,8 @@ use crate::tiff::tags::{
     JPEG_TABLES, describes_picture, is_raw_compression, is_raw_photometric, size_of_type,
 };
 
-// The type of the entry at an offset.
-fn kind_of(old: Old<'_>, entry: u64) -> Result<u16, Fault>
+/// The type of the entry at an offset.
+pub fn kind_of(old: Old<'_>, entry: u64) -> Result<u16, Fault>
     requires { entry < 2 ^ 62 }
     ensures { result ≡ kind_of (number_of old.entry.order) old.entry.bytes.now entry }
 {

@@ -19,6 +19,8 @@ pub enum Fault {
     Raw,
     /// Its directories are nested, or its picture is stored in a way that is not known.
     NotSupported,
+    /// A tag that describes a picture is there twice, or has values of another type or count.
+    OddTag,
 }
 
 impl fmt::Display for Fault {
@@ -36,6 +38,9 @@ impl fmt::Display for Fault {
                 "only the locations of a raw file can be taken out; export a picture and scrub that"
             }
             Fault::NotSupported => "the picture is stored in a way that is not supported",
+            Fault::OddTag => {
+                "a tag that describes the picture is there twice, or of another type or length"
+            }
         })
     }
 }
