@@ -56,7 +56,7 @@ fewer first kind.Unknown e = e
 fewer first kind.Broken e = e
 
 -- where nothing is put, no Exif data belong there
-weaker : (put : Bool) (undone : List (Option Undone)) (part : Part) → IsAnswered put undone part → IsAnswered true undone part
+pub weaker : (put : Bool) (undone : List (Option Undone)) (part : Part) → IsAnswered put undone part → IsAnswered true undone part
 weaker true undone part a = a
 weaker false undone part a = λ no. a (fewer (part.picture == 0) part.kind no)
 

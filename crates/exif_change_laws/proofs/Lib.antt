@@ -2,6 +2,7 @@ mod CopiedData
 mod DatesThemselves
 mod FoundFiles
 mod JoinedFiles
+mod KnownBytes
 mod JxlTrees
 mod KeptOrientation
 mod LeftKnown

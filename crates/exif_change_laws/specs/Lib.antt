@@ -2,6 +2,7 @@ pub mod Assigned
 pub mod Copies
 pub mod Examples
 pub mod JxlFound
+pub mod KnownBytes
 pub mod Leaving
 pub mod Positions
 pub mod Scrubbed
