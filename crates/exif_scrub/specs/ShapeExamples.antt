@@ -2,10 +2,13 @@
 use Rattle.std.specs.Prelude.{◌≡◌, refl, true, false, [], ◌∷◌}
 use Rattle.exif_scrub.specs.Shapes.{items_fit, type_fits}
 
--- a width is a number, and no text; JPEG tables are bytes; the range of dots is bytes or numbers
-types : type_fits 256 3 ∷ type_fits 256 2 ∷ type_fits 256 7 ∷ type_fits 347 7 ∷ type_fits 336 1
-    ∷ type_fits 336 2 ∷ type_fits 282 5 ∷ []
-    ≡ true ∷ false ∷ false ∷ true ∷ true ∷ false ∷ true ∷ []
+-- a width is a number of 16 or 32 bits, and no text; a resolution is a fraction; bits of samples
+-- have 16 bits; JPEG tables are bytes; the range of dots is bytes or numbers; directories are offsets
+types : type_fits 256 3 ∷ type_fits 256 4 ∷ type_fits 256 2 ∷ type_fits 282 5 ∷ type_fits 282 4
+    ∷ type_fits 258 3 ∷ type_fits 258 4 ∷ type_fits 347 7 ∷ type_fits 336 1 ∷ type_fits 336 2
+    ∷ type_fits 330 13 ∷ type_fits 340 11 ∷ type_fits 340 2 ∷ []
+    ≡ true ∷ true ∷ false ∷ true ∷ false ∷ true ∷ false ∷ true ∷ true ∷ false ∷ true ∷ true
+    ∷ false ∷ []
 types = refl
 
 -- one width; a number of bits for each of three samples; a colour map of 4 bits has 48 values, and

@@ -8,16 +8,28 @@ use Rattle.exif_scrub.specs.Tags.{describes_picture, in_range, size_of_type}
 use Rattle.exif_scrub.specs.declared.tiff.fault.Fault.{Fault}
 use Rattle.exif_scrub.specs.declared.tiff.fault.Fault.TheVariants.{OddTag}
 
--- whether a type is of bytes: BYTE, ASCII, SBYTE, UNDEFINED
-abbrev pub is_bytes : ℕ → Bool
-is_bytes kind = (kind == 1) || (kind == 2) || (kind == 6) || (kind == 7)
+-- whether a tag has fractions: resolutions, colours, coefficients and reference values
+abbrev pub is_fraction : ℕ → Bool
+is_fraction tag =
+    in_range 282 283 tag || in_range 318 319 tag || (tag == 529) || (tag == 532)
 
--- whether a tag may have values of a type: JPEG tables and a colour profile have bytes, the range of
--- dots and the values of samples may have single ones, and all others have numbers
+-- whether a tag has several numbers of 16 bits
+abbrev pub is_short : ℕ → Bool
+is_short tag =
+    (tag == 258) || in_range 280 281 tag || (tag == 291) || (tag == 297) || (tag == 301)
+    || in_range 320 321 tag || in_range 338 339 tag || (tag == 342) || (tag == 530)
+
+-- whether a tag may have values of a type: JPEG tables and a colour profile of any, the extremes of
+-- samples of any but texts, the range of dots bytes or numbers of 16 bits, directories offsets; all
+-- others have numbers of 16 bits or, where there is one alone, of 32
 abbrev pub type_fits : ℕ → ℕ → Bool
 type_fits tag kind =
-    if not (is_bytes kind) || (tag == 347) || (tag == 34675) then true
-    else ((tag == 336) || in_range 340 341 tag) && ((kind == 1) || (kind == 6))
+    if (tag == 347) || (tag == 34675) then true else
+    if in_range 340 341 tag then not ((kind == 2) || (kind == 7)) else
+    if is_fraction tag then kind == 5 else
+    if tag == 336 then (kind == 1) || (kind == 3) else
+    if is_short tag then kind == 3 else
+    if tag == 330 then (kind == 4) || (kind == 13) else (kind == 3) || (kind == 4)
 
 -- whether the count of a tag's values is that of strips, tiles or directories, which are visited,
 -- or the length of a stream or profile

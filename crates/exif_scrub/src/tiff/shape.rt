@@ -2,7 +2,7 @@
 
 ghost use Rattle.std.specs.Prelude.{◌≡◌, ◌<◌, ◌^◌};
 ghost use Rattle.exif_base.specs.Orders.{number_of};
-ghost use Rattle.exif_scrub.specs.Shapes.{entries_shaped, entry_shaped, is_bytes, items_fit, most_values, number_or, type_fits, value_shaped};
+ghost use Rattle.exif_scrub.specs.Shapes.{entries_shaped, entry_shaped, items_fit, most_values, number_or, type_fits, value_shaped};
 
 use crate::tiff::bytes::Old;
 use crate::tiff::entry::{count_of, entry_named, item_at, kind_of};
@@ -12,21 +12,19 @@ use crate::tiff::tags::{JPEG_TABLES, describes_picture, size_of_type};
 // The tag of the colour profile.
 const PROFILE: u16 = 34675;
 
-// Whether a type is of bytes.
-fn is_bytes(kind: u16) -> bool
-    ensures { result ≡ is_bytes kind }
-{
-    matches!(kind, 1 | 2 | 6 | 7)
-}
-
 // Whether a tag may have values of a type.
 fn type_fits(tag: u16, kind: u16) -> bool
     ensures { result ≡ type_fits tag kind }
 {
-    if !is_bytes(kind) || tag == JPEG_TABLES || tag == PROFILE {
-        return true;
+    match tag {
+        JPEG_TABLES | PROFILE => true,
+        340..=341 => kind != 2 && kind != 7,
+        282..=283 | 318..=319 | 529 | 532 => kind == 5,
+        336 => matches!(kind, 1 | 3),
+        258 | 280..=281 | 291 | 297 | 301 | 320..=321 | 338..=339 | 342 | 530 => kind == 3,
+        330 => matches!(kind, 4 | 13),
+        _ => matches!(kind, 3 | 4),
     }
-    matches!(tag, 336 | 340..=341) && matches!(kind, 1 | 6)
 }
 
 // How many values a tag has that does not depend on the picture.
