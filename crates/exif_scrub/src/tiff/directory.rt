@@ -53,8 +53,8 @@ fn keep_directory(
     let count = old.short(at)?;
     let first = at + 2;
     let kept = keep_entries(old, keeps_orientation, is_nested, count, first, new)?;
-    keep(&spelled_u16(old.order, kept), 0, 2, new, at)?;
     test_shapes(old, keeps_orientation, count, first)?;
+    keep(&spelled_u16(old.order, kept), 0, 2, new, at)?;
     let end = first + 12 * u64::from(count);
     keep(old.bytes, end, 4, new, first + 12 * u64::from(kept))?;
     visit_picture(old, Pass::Keep(keeps_orientation), count, first, new)
