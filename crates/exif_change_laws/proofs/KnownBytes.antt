@@ -1,5 +1,5 @@
 -- Each byte of a scrubbed file is one of a part that belongs there, or of one that was answered.
-use Rattle.std.proofs.Common.{◌≡◌, ◌⊎◌, ◌∙◌, ◌<◌, ◌≤◌, ◌+◌, ◌++◌, zero, suc, not, ℕ, nat_lt, Bool, true, false, List, [], ◌∷◌, length, All, Contains, slice_index_or, is_some, Option, Some, None, Result, Ok, Err, refl, sym, ap, subst, arith, if◌then◌else◌}
+use Rattle.std.proofs.Common.{◌≡◌, ◌∙◌, ◌<◌, ◌≤◌, ◌+◌, ◌++◌, zero, suc, not, ℕ, nat_lt, Bool, true, false, List, [], ◌∷◌, length, All, Contains, slice_index_or, is_some, Option, Some, None, Result, Ok, Err, refl, ap, subst, arith, if◌then◌else◌}
 use Rattle.std.proofs.lemmas.Bool.{false≢true}
 use Rattle.std.proofs.lemmas.List.Elements.{All-contains, Contains-append_left}
 use Rattle.exif_formats.specs.Jxl.{begins_codestream}
