@@ -1,6 +1,6 @@
 -- What is found in a new file: where nothing was left, nothing was found; and what was found was left.
 use Rattle.std.proofs.Common.{◌≡◌, ◌∙◌, ℕ, Bool, List, [], ◌∷◌, ◌++◌, map, All, Contains, slice_index_or, Option, Some, None, Result, Ok, Err, refl, sym, ap, subst}
-use Rattle.std.proofs.lemmas.List.Elements.{Contains-append_right}
+use Rattle.std.proofs.lemmas.List.Elements.{Contains-append_left, Contains-append_right}
 use Rattle.exif_inventory.specs.declared.part.Part.{Part}
 use Rattle.exif_lengths.specs.Walks.{measured_inventory}
 use Rattle.exif_change.specs.Changed.{Change, Undone, still_there, whole}
@@ -57,3 +57,23 @@ found_answered put (Ok old) change parts e is = λ k d below no.
     found_is =
         ap (λ (o : Option (List Part)). elim o as (λ _. List Part) [ Some parts ↦ foreign put parts [] | None ↦ [] ])
         (ap measured_inventory file_is ∙ is)
+
+-- where more was left of the same file, they still are
+pub still_answered : (put : Bool) (old change : Change) (more : List (Option Undone)) (parts : List Part)
+    → old.file ≡ change.file → old.undone ++ more ≡ change.undone
+    → (measured_inventory old.file ≡ Some parts → All (IsAnswered put old.undone) parts)
+    → measured_inventory change.file ≡ Some parts → All (IsAnswered put change.undone) parts
+still_answered put old change more parts file_is undone_is all is = λ k d below no.
+    subst (λ (us : List (Option Undone)). Contains us (Some (still_there (slice_index_or parts k d)))) undone_is
+    (Contains-append_left old.undone more (Some (still_there (slice_index_or parts k d)))
+    (all (ap measured_inventory file_is ∙ is) k d below no))
+
+pub more_answered : (put : Bool) (more : List Part) (made : Result Change Reason) (change : Change) (parts : List Part)
+    → ((c : Change) → made ≡ Ok c → measured_inventory c.file ≡ Some parts → All (IsAnswered put c.undone) parts)
+    → with_parts more made ≡ Ok change → measured_inventory change.file ≡ Some parts → All (IsAnswered put change.undone) parts
+more_answered put more (Err why) change parts all e is = absurd (no_ok why change e)
+more_answered put more (Ok old) change parts all e is =
+    still_answered put old change (map (λ part. Some (still_there part)) more) parts
+    (ap (λ (x : Result Change Reason). elim x [ Ok c ↦ c.file | Err why ↦ [] ]) e)
+    (ap (λ (x : Result Change Reason). elim x [ Ok c ↦ c.undone | Err why ↦ [] ]) e)
+    (all old refl) is

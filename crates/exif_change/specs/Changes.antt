@@ -22,7 +22,7 @@ use Rattle.exif_scrub.specs.declared.heif.fault.Fault as heif_faults
 use Rattle.exif_scrub.specs.TiffScrubbing as tiff
 use Rattle.exif_scrub.specs.declared.tiff.fault.Fault.{Fault}
 use Rattle.exif_change.specs.Changed.{Change, color_kept, stays, whole}
-use Rattle.exif_change.specs.Found.{with_found, with_parts}
+use Rattle.exif_change.specs.Found.{loose_parts, with_found, with_parts}
 use Rattle.exif_change.specs.Reading.{Contents, entry_limit, file_contents}
 use Rattle.exif_change.specs.Refusals.{Reason, as_read, editing, heif_fault, tiff_fault, unknown_format, ◌>>=◌}
 use Rattle.exif_change.specs.Rewriting.{rewritten}
@@ -60,6 +60,11 @@ without_metadata format removed file =
     kept removed file
     >>= λ put. with_found (is_some put) (as_read (rewritten format Metadata put file))
 
+-- a JPEG file without its metadata, with what the old one has between its segments behind parts that
+-- went
+abbrev pub jpeg_emptied : Removed → List ℕ → Result Change Reason
+jpeg_emptied removed file = with_parts (loose_parts file) (without_metadata Jpeg removed file)
+
 -- a change of a HEIF file with the parts that stay, or why it is refused
 abbrev pub heif_left : Change → Result (List Part) heif_faults.Fault → Result Change Reason
 heif_left change (Ok parts) = with_parts parts (Ok change)
@@ -85,7 +90,7 @@ tiff_emptied (Err fault) = Err (tiff_fault fault)
 
 -- a file without its metadata, by its format: rewritten, or changed in place
 abbrev pub emptied : Format → Removed → List ℕ → Result Change Reason
-emptied Jpeg removed file = without_metadata Jpeg removed file
+emptied Jpeg removed file = jpeg_emptied removed file
 emptied WebP removed file = without_metadata WebP removed file
 emptied Heif removed file = heif_emptied (heif.emptied file)
 emptied Tiff removed file = tiff_emptied (tiff.scrubbed (keeps_orientation removed) file)

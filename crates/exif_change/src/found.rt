@@ -1,8 +1,8 @@
 //! Metadata that are found in a new file.
 
-ghost use Rattle.std.specs.Prelude.{◌≡◌, ◌++◌, [], IfOk, Ok};
+ghost use Rattle.std.specs.Prelude.{◌≡◌, ◌++◌, [], true, IfOk, Ok};
 ghost use Rattle.exif_change.specs.Changed.{change_of};
-ghost use Rattle.exif_change.specs.Found.{belongs, foreign, found_in, with_found, with_parts};
+ghost use Rattle.exif_change.specs.Found.{belongs, foreign, found_in, is_loose, loose_behind, loose_parts, with_found, with_parts};
 ghost use Rattle.exif_change.specs.Refusals.{Answers};
 
 use crate::Refusal;
@@ -46,6 +46,48 @@ fn found_in(alloc: Global, put: bool, file: &[u8]) -> Result<Vec<Part>, AllocErr
         Some(parts) => foreign(alloc, put, &parts),
         None => Ok(Vec::new(alloc)),
     }
+}
+
+// Whether a part is bytes outside of segments.
+fn is_loose(file: &[u8], part: Part) -> bool
+    ensures { result ≡ is_loose file.now part }
+{
+    matches!(part.kind, Kind::Unknown) && part.offset < file.len() && file[part.offset] != 0xff
+}
+
+// Of these parts, the bytes outside of segments that follow a part which goes.
+fn loose_behind(alloc: Global, file: &[u8], parts: &[Part]) -> Result<Vec<Part>, AllocError>
+    ensures { IfOk result (λ found. found.items ≡ loose_behind file.now true parts.now []) }
+{
+    let mut found = Vec::new(alloc);
+    let mut belonged = true;
+    for part in parts {
+        if !belonged && is_loose(file, *part) {
+            found.push(*part)?;
+        }
+        belonged = belongs(false, *part);
+    }
+    Ok(found)
+}
+
+// Those of a JPEG file.
+fn loose_parts(alloc: Global, file: &[u8]) -> Result<Vec<Part>, AllocError>
+    ensures { IfOk result (λ found. found.items ≡ loose_parts file.now) }
+{
+    match inventory(alloc, file)? {
+        Some(parts) => loose_behind(alloc, file, &parts),
+        None => Ok(Vec::new(alloc)),
+    }
+}
+
+/// A JPEG file without its metadata, with the bytes outside of segments that the old one has behind
+/// parts which went: they are bytes of a scan then, which no reader tells from its own.
+pub(crate) fn with_loose(alloc: Global, old: &[u8], changed: Changed) -> Result<Changed, Refusal>
+    ensures { Answers change_of result
+        (with_parts (loose_parts old.now) (Ok (change_of changed))) }
+{
+    let loose = loose_parts(alloc, old)?;
+    with_parts(alloc, changed, &loose)
 }
 
 /// A change that left these parts too.

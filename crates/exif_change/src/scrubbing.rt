@@ -4,7 +4,7 @@ ghost use Rattle.std.specs.Prelude.{◌≡◌, map, IfOk, Ok, Some};
 ghost use Rattle.std.specs.Option.{option_map};
 ghost use Rattle.exif_types.specs.Refusals.{Gives};
 ghost use Rattle.exif_change.specs.Changed.{change_of, stays, undone_of};
-ghost use Rattle.exif_change.specs.Changes.{emptied, erased, gps_erased, heif_emptied, heif_left, if_parted, keeps_orientation, kept, orientation_in, scrubbed, scrubbed_as, scrubbed_with_color, tiff_emptied, unlocated, with_color, without_metadata};
+ghost use Rattle.exif_change.specs.Changes.{emptied, erased, gps_erased, heif_emptied, heif_left, if_parted, jpeg_emptied, keeps_orientation, kept, orientation_in, scrubbed, scrubbed_as, scrubbed_with_color, tiff_emptied, unlocated, with_color, without_metadata};
 ghost use Rattle.exif_scrub.specs.HeifScrubbing.{emptied as heif_file_emptied, settled};
 ghost use Rattle.exif_scrub.specs.TiffScrubbing.{scrubbed as tiff_scrubbed};
 ghost use Rattle.exif_privacy.specs.Erasing.{erased as privacy_erased};
@@ -12,7 +12,7 @@ ghost use Rattle.exif_change.specs.Reading.{file_contents};
 ghost use Rattle.exif_change.specs.Refusals.{Answers};
 
 use crate::changed::{Changed, Residual};
-use crate::found::{with_found, with_parts};
+use crate::found::{with_found, with_loose, with_parts};
 use crate::reading::ENTRY_LIMIT;
 use crate::rewriting::rewritten;
 use crate::{Refusal, read};
@@ -85,6 +85,14 @@ fn scrubbed_as(
     }
 }
 
+// The JPEG file without its metadata, but for what is kept.
+fn jpeg_emptied(alloc: Global, file: &[u8], removed: Removed) -> Result<Changed, Refusal>
+    ensures { Answers change_of result (jpeg_emptied removed file.now) }
+{
+    let changed = without_metadata(alloc, Format::Jpeg, file, removed)?;
+    with_loose(alloc, file, changed)
+}
+
 // The file of a format without its metadata, but for what is kept.
 fn emptied(
     alloc: Global,
@@ -95,7 +103,8 @@ fn emptied(
     ensures { Answers change_of result (emptied format removed file.items) }
 {
     match format {
-        Format::Jpeg | Format::WebP => without_metadata(alloc, format, file.as_slice(), removed),
+        Format::Jpeg => jpeg_emptied(alloc, file.as_slice(), removed),
+        Format::WebP => without_metadata(alloc, format, file.as_slice(), removed),
         Format::Heif => heif_emptied(alloc, file),
         Format::Tiff => tiff_emptied(alloc, file.as_slice(), removed),
     }

@@ -10,12 +10,12 @@ use Rattle.exif_inventory.specs.declared.kind.Kind.TheVariants as kind
 use Rattle.exif_inventory.specs.declared.part.Part.{Part}
 use Rattle.exif_lengths.specs.Walks.{measured_inventory}
 use Rattle.exif_change.specs.Changed.{Change, Undone}
-use Rattle.exif_change.specs.Changes.{kept, scrubbed}
-use Rattle.exif_change.specs.Found.{IsAnswered, is_wanted, with_found}
+use Rattle.exif_change.specs.Changes.{kept, scrubbed, without_metadata}
+use Rattle.exif_change.specs.Found.{IsAnswered, is_wanted, loose_parts, with_found}
 use Rattle.exif_change.specs.Refusals.{Reason, as_read, ◌>>=◌}
 use Rattle.exif_change.specs.Rewriting.{rewritten}
 use Rattle.exif_change.specs.declared.scrubbing.Removed.TheVariants.{AllButOrientation, Metadata}
-use Rattle.exif_change.proofs.FoundParts.{found_answered}
+use Rattle.exif_change.proofs.FoundParts.{found_answered, more_answered}
 use Rattle.exif_change_laws.specs.Scrubbed.{AllAnswered, IsScrubbedTo, is_written_again}
 use Rattle.exif_change_laws.proofs.ScrubbedFiles.{scrubbed_by}
 
@@ -23,7 +23,10 @@ no_ok : (why : Reason) (x : Change) → ◌≡◌ {A = Result Change Reason} (Er
 no_ok why x e = cc
 
 by_metadata : (file : List ℕ) (change : Change) (o : Option Format) → format_in file ≡ o → is_written_again o ≡ true → scrubbed Metadata file ≡ Ok change → AllAnswered false change
-by_metadata file change (Some Jpeg) f r e = λ parts is. found_answered false (as_read (rewritten Jpeg remove.Metadata None file)) change parts (sym (scrubbed_by Jpeg Metadata file f) ∙ e) is
+by_metadata file change (Some Jpeg) f r e = λ parts is.
+    more_answered false (loose_parts file) (without_metadata Jpeg Metadata file) change parts
+    (λ c. found_answered false (as_read (rewritten Jpeg remove.Metadata None file)) c parts)
+    (sym (scrubbed_by Jpeg Metadata file f) ∙ e) is
 by_metadata file change (Some WebP) f r e = λ parts is. found_answered false (as_read (rewritten WebP remove.Metadata None file)) change parts (sym (scrubbed_by WebP Metadata file f) ∙ e) is
 by_metadata file change (Some Heif) f r e = absurd (false≢true r)
 by_metadata file change (Some Tiff) f r e = absurd (false≢true r)
@@ -69,7 +72,10 @@ by_kept format file (Ok put) change parts e is = λ k d below.
     weaker (is_some put) change.undone _ (found_answered (is_some put) (as_read (rewritten format remove.Metadata put file)) change parts e is k d below)
 
 by_all_else : (file : List ℕ) (change : Change) (o : Option Format) → format_in file ≡ o → is_written_again o ≡ true → scrubbed AllButOrientation file ≡ Ok change → AllAnswered true change
-by_all_else file change (Some Jpeg) f r e = λ parts is. by_kept Jpeg file (kept AllButOrientation file) change parts (sym (scrubbed_by Jpeg AllButOrientation file f) ∙ e) is
+by_all_else file change (Some Jpeg) f r e = λ parts is.
+    more_answered true (loose_parts file) (without_metadata Jpeg AllButOrientation file) change parts
+    (λ c. by_kept Jpeg file (kept AllButOrientation file) c parts)
+    (sym (scrubbed_by Jpeg AllButOrientation file f) ∙ e) is
 by_all_else file change (Some WebP) f r e = λ parts is. by_kept WebP file (kept AllButOrientation file) change parts (sym (scrubbed_by WebP AllButOrientation file f) ∙ e) is
 by_all_else file change (Some Heif) f r e = absurd (false≢true r)
 by_all_else file change (Some Tiff) f r e = absurd (false≢true r)

@@ -19,13 +19,13 @@ use Rattle.exif_layout.specs.declared.write_fault.WriteFault.{WriteFault}
 use Rattle.exif_rewrite.specs.FileLaws.{AnswersPut, IsFound}
 use Rattle.exif_rewrite.specs.ScrubbedExif.{image_or, scrubbed_answer, wanted}
 use Rattle.exif_change.specs.Changed.{whole}
-use Rattle.exif_change.specs.Changes.{kept, orientation_in, scrubbed, upright}
-use Rattle.exif_change.specs.Found.{with_found}
+use Rattle.exif_change.specs.Changes.{kept, orientation_in, scrubbed, upright, without_metadata}
+use Rattle.exif_change.specs.Found.{loose_parts, with_found}
 use Rattle.exif_change.specs.Reading.{Contents, data_contents, fields_in, file_contents, without_fault}
 use Rattle.exif_change.specs.Refusals.{Reason, as_read, reading, ◌>>=◌}
 use Rattle.exif_change.specs.Rewriting.{rewritten}
 use Rattle.exif_change.specs.declared.scrubbing.Removed.TheVariants.{AllButOrientation}
-use Rattle.exif_change.proofs.FoundParts.{with_found_whole}
+use Rattle.exif_change.proofs.FoundParts.{with_found_whole, with_parts_whole}
 use Rattle.exif_change_laws.specs.Scrubbed.{HasNoField, is_rewritten, orientation, orientation_alone}
 use Rattle.exif_change_laws.proofs.OrientationImage.{told_order, told_read}
 use Rattle.exif_change_laws.proofs.ScrubbedFiles.{nothing_read, put_read, rewritten_answers, scrubbed_by}
@@ -45,7 +45,7 @@ no_ok why x e = cc
 scrubbed_so : (format : Format) (file new : List ℕ) → is_rewritten format ≡ true → format_in file ≡ Some format
     → scrubbed AllButOrientation file ≡ Ok (whole new)
     → (kept AllButOrientation file >>= λ put. with_found (is_some put) (as_read (rewritten format Metadata put file))) ≡ Ok (whole new)
-scrubbed_so Jpeg file new r f e = sym (scrubbed_by Jpeg AllButOrientation file f) ∙ e
+scrubbed_so Jpeg file new r f e = with_parts_whole (loose_parts file) (without_metadata Jpeg AllButOrientation file) new (sym (scrubbed_by Jpeg AllButOrientation file f) ∙ e)
 scrubbed_so WebP file new r f e = sym (scrubbed_by WebP AllButOrientation file f) ∙ e
 scrubbed_so Heif file new r f e = absurd (false_true r)
   where

@@ -1,7 +1,7 @@
 -- Each byte of a scrubbed file is one of a part that belongs there, or of one that was answered.
-use Rattle.std.proofs.Common.{◌≡◌, ◌∙◌, ◌<◌, ◌≤◌, ◌+◌, ◌++◌, zero, suc, not, ℕ, nat_lt, Bool, true, false, List, [], ◌∷◌, length, All, Contains, slice_index_or, is_some, Option, Some, None, Result, Ok, Err, refl, ap, subst, arith, if◌then◌else◌}
+use Rattle.std.proofs.Common.{◌≡◌, ◌∙◌, ◌<◌, ◌≤◌, ◌+◌, zero, suc, not, ℕ, nat_lt, Bool, true, false, List, [], ◌∷◌, length, All, Contains, is_some, Option, Some, None, Result, Ok, Err, refl, ap, arith, if◌then◌else◌}
 use Rattle.std.proofs.lemmas.Bool.{false≢true}
-use Rattle.std.proofs.lemmas.List.Elements.{All-contains, Contains-append_left}
+use Rattle.std.proofs.lemmas.List.Elements.{All-contains}
 use Rattle.exif_formats.specs.Jxl.{begins_codestream}
 use Rattle.exif_formats.specs.Pictures.{png_data}
 use Rattle.exif_formats.specs.declared.format.PictureFormat.{PictureFormat}
@@ -11,7 +11,7 @@ use Rattle.exif_inventory.specs.declared.part.Part.{Part}
 use Rattle.exif_lengths.specs.Walks.{measured_inventory}
 use Rattle.exif_segments.specs.declared.remove.Remove.TheVariants as remove
 use Rattle.exif_types.specs.Refusals as types
-use Rattle.exif_change.specs.Changed.{Change, Undone, cut_off, still_there, whole}
+use Rattle.exif_change.specs.Changed.{Change, Undone, cut_off, whole}
 use Rattle.exif_change.specs.Changes.{keeps_orientation}
 use Rattle.exif_change.specs.Codestreams.{codestream_of}
 use Rattle.exif_change.specs.Found.{IsAnswered, belongs, with_found}
@@ -23,7 +23,7 @@ use Rattle.exif_change.specs.declared.codestream.Codestream.{Codestream}
 use Rattle.exif_change.specs.declared.codestream.Codestream.TheVariants as codestream
 use Rattle.exif_change.specs.declared.scrubbing.Removed.{Removed}
 use Rattle.exif_change.specs.declared.scrubbing.Removed.TheVariants.{AllButOrientation, Gps, Metadata}
-use Rattle.exif_change.proofs.FoundParts.{found_answered}
+use Rattle.exif_change.proofs.FoundParts.{found_answered, still_answered}
 use Rattle.exif_change_laws.specs.KnownBytes.{EachByteIsTold, IsIn, IsTold, MadeAnew, is_made_anew}
 use Rattle.exif_change_laws.specs.Leaving.{takes_metadata}
 use Rattle.exif_change_laws.proofs.FoundFiles.{all_answered, kept_answered, weaker}
@@ -64,16 +64,11 @@ cut_all : (r : Result Change Reason) (change : Change) (parts : List Part)
     → ((c : Change) → r ≡ Ok c → measured_inventory c.file ≡ Some parts → All (IsAnswered false c.undone) parts)
     → if_cut_off r ≡ Ok change → measured_inventory change.file ≡ Some parts → All (IsAnswered false change.undone) parts
 cut_all (Err why) change parts all e is = absurd (no_ok why change e)
-cut_all (Ok old) change parts all e is = λ k d below no.
-    subst (λ (us : List (Option Undone)). Contains us (Some (still_there (slice_index_or parts k d)))) undone_is
-    (Contains-append_left old.undone (Some cut_off ∷ []) (Some (still_there (slice_index_or parts k d)))
-    (all old refl (ap measured_inventory file_is ∙ is) k d below no))
-  where
-    file_is : old.file ≡ change.file
-    file_is = ap (λ (x : Result Change Reason). elim x [ Ok c ↦ c.file | Err why ↦ [] ]) e
-
-    undone_is : old.undone ++ Some cut_off ∷ [] ≡ change.undone
-    undone_is = ap (λ (x : Result Change Reason). elim x [ Ok c ↦ c.undone | Err why ↦ [] ]) e
+cut_all (Ok old) change parts all e is =
+    still_answered false old change (Some cut_off ∷ []) parts
+    (ap (λ (x : Result Change Reason). elim x [ Ok c ↦ c.file | Err why ↦ [] ]) e)
+    (ap (λ (x : Result Change Reason). elim x [ Ok c ↦ c.undone | Err why ↦ [] ]) e)
+    (all old refl) is
 
 jxl_all : (file : List ℕ) (c : Codestream) (change : Change) (parts : List Part) → not (begins_codestream file) ≡ true
     → by_codestream c (jxl.jxl_emptied file) ≡ Ok change

@@ -35,7 +35,8 @@ use Rattle.exif_scrub.specs.HeifScrubbing as heif
 use Rattle.exif_scrub.specs.declared.heif.fault.Fault as heif_faults
 use Rattle.exif_scrub.proofs.Stays.{emptied_long}
 use Rattle.exif_change.specs.Changed.{Change, whole}
-use Rattle.exif_change.specs.Changes.{erased, heif_emptied, heif_left, if_edited, scrubbed, scrubbed_as}
+use Rattle.exif_change.specs.Changes.{erased, heif_emptied, heif_left, if_edited, scrubbed, scrubbed_as, without_metadata}
+use Rattle.exif_change.specs.Found.{loose_parts}
 use Rattle.exif_change.specs.Reading.{Contents, data_contents, entry_limit, file_contents}
 use Rattle.exif_change.specs.Refusals.{Reason, as_read, heif_fault, unknown_format, ◌>>=◌}
 use Rattle.exif_change.specs.Rewriting.{rewritten}
@@ -241,7 +242,8 @@ scrubbed_read file new law limits other short small e = by_format (format_in fil
         → HasNoField (file_contents new)
     by_format None f e = absurd (no_ok unknown_format (whole new) e)
     by_format (Some Tiff) f e = absurd (other f)
-    by_format (Some Jpeg) f e = nothing_read new (rewritten_answers Jpeg None file new law refl f (with_found_whole false (as_read (rewritten Jpeg Metadata None file)) new e) small)
+    by_format (Some Jpeg) f e = nothing_read new (rewritten_answers Jpeg None file new law refl f (with_found_whole false (as_read (rewritten Jpeg Metadata None file)) new
+        (with_parts_whole (loose_parts file) (without_metadata Jpeg removed.Metadata file) new e)) small)
     by_format (Some WebP) f e = nothing_read new (rewritten_answers WebP None file new law refl f (with_found_whole false (as_read (rewritten WebP Metadata None file)) new e) small)
     by_format (Some Heif) f e = heif_read (heif.emptied file) new limits (heif_short file short) e
 
