@@ -1,1 +1,2 @@
+pub mod PicturesSteps
 pub mod WalkSteps

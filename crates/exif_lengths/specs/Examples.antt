@@ -12,6 +12,7 @@ use Rattle.exif_inventory.specs.declared.part.Part.{Part}
 use Rattle.exif_lengths.specs.Index.{index_fits}
 use Rattle.exif_lengths.specs.Jpeg.{segment_fits}
 use Rattle.exif_lengths.specs.Jxl.{content_fits}
+use Rattle.exif_lengths.specs.Pictures.{pictures_fit}
 use Rattle.exif_lengths.specs.Png.{chunk_fits}
 use Rattle.exif_lengths.specs.Tables.{huffman_fits, quantization_fits}
 use Rattle.exif_lengths.specs.Walks.{measured_inventory, split}
@@ -296,3 +297,29 @@ parts_of_animated = refl
 -- ---- a file of another format
 of_none : measured_inventory (codes "II*\0") ≡ None
 of_none = refl
+
+-- ---- the index of pictures
+
+-- an index of two pictures: a version, their count, and two entries of 16 bytes
+abbrev two_pictures : List ℕ
+two_pictures =
+    codes "MM\0*\0\0\0\u{8}\0\u{3}" ++ 0xB0 ∷ codes "\0\0\u{7}\0\0\0\u{4}0100" ++ 0xB0
+    ∷ codes "\u{1}\0\u{4}\0\0\0\u{1}\0\0\0\u{2}" ++ 0xB0 ∷ codes "\u{2}\0\u{7}\0\0\0 \0\0\02\0\0\0\0"
+    ++ zeros 32
+
+index_of_pictures : pictures_fit two_pictures ≡ true
+index_of_pictures = refl
+
+-- with a padding, and with a text
+padded_index : pictures_fit (two_pictures ++ zeros 5) ≡ true
+padded_index = refl
+
+index_with_text : pictures_fit (two_pictures ++ codes "Basel") ≡ false
+index_with_text = refl
+
+-- no entries and a text, and no index
+text_index : pictures_fit (codes "MM\0*\0\0\0\u{8}\0\0\0\0\0\0Basel") ≡ false
+text_index = refl
+
+no_index : pictures_fit (codes "Basel") ≡ false
+no_index = refl

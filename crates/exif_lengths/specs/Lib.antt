@@ -4,6 +4,7 @@ pub mod Png
 pub mod Index
 pub mod Jxl
 pub mod Webp
+pub mod Pictures
 pub mod Formats
 pub mod Walks
 pub mod Examples

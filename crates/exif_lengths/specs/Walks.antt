@@ -6,6 +6,7 @@ use Rattle.exif_inventory.specs.declared.kind.Kind.{Kind}
 use Rattle.exif_inventory.specs.declared.kind.Kind.TheVariants as kind
 use Rattle.exif_inventory.specs.declared.part.Part.{Part}
 use Rattle.exif_lengths.specs.Formats.{format_of, step_at}
+use Rattle.exif_lengths.specs.Pictures.{pictures_fit}
 use Rattle.exif_lengths.specs.declared.format.Format.{Format}
 use Rattle.exif_lengths.specs.declared.step.Step.{Step}
 use Rattle.exif_lengths.specs.declared.walk.Walk.{Walk}
@@ -88,9 +89,26 @@ abbrev pub split_part : Format → List ℕ → Part → List Part → List Part
 split_part format file part parts =
     split_from format part.picture part.offset (take part.len (drop part.offset file)) parts
 
--- a part, behind others: only one of the picture is split
+-- a part whose kind is not known
+abbrev pub unknown : Part → Part
+unknown part = record {
+  kind = kind.Unknown;
+  picture = part.picture;
+  offset = part.offset;
+  len = part.len;
+  data_offset = part.data_offset;
+  data_len = part.data_len;
+}
+
+-- an index of pictures, if its data are one and have no more bytes
+abbrev pub indexed : List ℕ → Part → Part
+indexed file part =
+    if pictures_fit (take part.data_len (drop part.data_offset file)) then part else unknown part
+
+-- a part, behind others: one of the picture is split, and an index of pictures is looked at
 abbrev pub by_kind : Kind → Format → List ℕ → Part → List Part → List Part
 by_kind kind.Picture format file part parts = split_part format file part parts
+by_kind kind.MultiPicture format file part parts = parts ++ indexed file part ∷ []
 by_kind _ format file part parts = parts ++ part ∷ []
 
 -- parts of a file, behind others
@@ -109,6 +127,6 @@ inventory_by None file = None
 inventory_by (Some format) file = option_map (measured format file) (inventory file)
 
 -- the parts of a file, if its format is known: each piece of the picture that has other bytes than
--- its standard gives it is a part of its own, whose kind is not known
+-- its standard gives it is a part of its own, whose kind is not known, and so is an index of pictures
 abbrev pub measured_inventory : List ℕ → Option (List Part)
 measured_inventory file = inventory_by (format_of file) file

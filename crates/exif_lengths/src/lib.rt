@@ -10,6 +10,7 @@ mod format;
 mod index;
 mod jpeg;
 mod jxl;
+mod pictures;
 mod png;
 mod step;
 mod tables;

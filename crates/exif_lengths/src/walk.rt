@@ -3,9 +3,10 @@
 ghost use Rattle.std.specs.Prelude.{◌≡◌, ◌+◌, ◌<◌, ◌≤◌, ◌^◌, All, IfOk, IfSome, OnOk, length};
 ghost use Rattle.std.specs.Option.{option_map};
 ghost use Rattle.exif_inventory.specs.Promises.{AreInOrder, EndsIn};
-ghost use Rattle.exif_lengths.specs.Walks.{by_kind, measured, measured_inventory, part_at, split_part, stepped, walk_view, with_run};
+ghost use Rattle.exif_lengths.specs.Walks.{by_kind, indexed, measured, measured_inventory, part_at, split_part, stepped, walk_view, with_run};
 
 use crate::format::{Format, format_of, step_at};
+use crate::pictures::pictures_fit;
 use crate::step::Step;
 use exif_inventory::{Kind, Part};
 use std::alloc::{AllocError, Global};
@@ -99,6 +100,24 @@ fn split_part(
     Ok(parts)
 }
 
+// An index of pictures, if its data are one and have no more bytes; else a part whose kind is not
+// known.
+fn indexed(file: &[u8], part: Part) -> Part
+    requires { EndsIn (length file.now) part }
+    ensures value { result ≡ indexed file.now part }
+    ensures offset { result.offset ≡ part.offset }
+    ensures len { result.len ≡ part.len }
+    ensures inside { EndsIn (length file.now) result }
+{
+    if pictures_fit(&file[part.data_offset..][..part.data_len]) {
+        return part;
+    }
+    Part {
+        kind: Kind::Unknown,
+        ..part
+    }
+}
+
 // Adds a part to others.
 #[tactic(auto, using(crate::proofs::WalkSteps::behind_ordered))]
 fn add_part(
@@ -119,6 +138,10 @@ fn add_part(
     let mut parts = parts;
     match part.kind {
         Kind::Picture => split_part(parts, format, file, part),
+        Kind::MultiPicture => {
+            parts.push(indexed(file, part))?;
+            Ok(parts)
+        }
         _ => {
             parts.push(part)?;
             Ok(parts)
@@ -148,9 +171,9 @@ fn measured(
 
 /// The parts of a JPEG, WebP, PNG or JPEG XL file, as [`exif_inventory::inventory`] lists them, but
 /// that a piece of the picture with other bytes than its standard gives it is a part of its own,
-/// whose kind is not known: a marker, a segment, a chunk, a box, or bytes between segments. They too
-/// are in the order of their bytes, and together they are the file. `None` for a file of another
-/// format.
+/// whose kind is not known: a marker, a segment, a chunk, a box, or bytes between segments. So is an
+/// index of pictures that has more bytes than its fields. They too are in the order of their bytes,
+/// and together they are the file. `None` for a file of another format.
 ///
 /// It takes memory for the two lists.
 pub fn inventory(alloc: Global, file: &[u8]) -> Result<Option<Vec<Part>>, AllocError>
