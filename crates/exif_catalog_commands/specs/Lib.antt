@@ -1,4 +1,2 @@
-pub mod Gathering
 pub mod Pages
 pub mod Reports
-pub mod Rows

@@ -3,11 +3,9 @@
 #![tactic(auto)]
 
 mod catalog;
-mod gathering;
 mod page;
 mod query;
 mod reports;
-mod rows;
 
 pub use catalog::run_catalog;
 pub use page::write_page;

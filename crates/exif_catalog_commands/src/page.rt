@@ -1,28 +1,28 @@
 //! A page that shows the pictures of a catalogue.
 
-ghost use Rattle.std.specs.Prelude.{◌≡◌, ◌⊎◌, ◌++◌, List, Err, IfOk, IsErr, IsSome, OnOk, codes, string_bytes};
+ghost use Rattle.std.specs.Prelude.{◌≡◌, ◌⊎◌, ◌++◌, List, IfOk, IsSome, OnOk, codes, string_bytes};
 ghost use Rattle.exif_catalog_file.specs.Shown.{row_texts};
 ghost use Rattle.exif_decisions.specs.Paths.{slash_after};
 ghost use Rattle.exif_files.specs.Statuses.{code};
 ghost use Rattle.exif_files.specs.declared.outcome.Status.TheVariants.{Incomplete, Refused, Success};
 ghost use Rattle.exif_page.specs.Pages.{page_html};
 ghost use Rattle.exif_page.specs.declared.entries.Entry.{Entry};
-ghost use Rattle.exif_types.specs.declared.error.Error.TheVariants.{OutOfMemory};
-ghost use Rattle.exif_catalog_commands.specs.Pages.{AddsEntry, AddsPicture, IsWhole, facts_of, found_in, item_line, last_as, section_as, seen_as, shown};
+ghost use Rattle.exif_catalog_commands.specs.Pages.{AddsEntry, AddsPicture, IsWhole, last_as, section_as};
 ghost use Rattle.exif_session.specs.Statuses.{IsStatus};
 
 use crate::reports::{refusal_of, visit_refusal};
-use exif::{Error, Sink};
+use exif::Sink;
 use exif_catalog_file::{CatalogError, PictureRow, RunError, Visitor, visit};
 use exif_decisions::slash_after;
 use exif_files::{Status, folder_of};
+use exif_gathering::{facts_of, found_in, shown};
 use exif_inputs::{Console, thumbnail_of};
 use exif_page::{
-    Entry, Exposure, Facts, Section, Thumbnail as Shown, end_html, entry_html, entry_of, foot_html,
-    head_html, link_to, section_of, texts_of, thumbnail_html,
+    Entry, Section, end_html, entry_html, entry_of, foot_html, head_html, link_to, section_of,
+    texts_of, thumbnail_html,
 };
 use exif_session::{Paging, Stop, absolute_of, out_of, write_out};
-use exif_thumbnails::{Coding, Thumbnail};
+use exif_thumbnails::Thumbnail;
 use std::alloc::{AllocError, Global};
 
 // The page as far as it goes.
@@ -119,44 +119,6 @@ fn joined(
     Ok(html)
 }
 
-// What a row says of its picture.
-fn facts_of<'a>(picture: &'a PictureRow<'_>, link: &'a str) -> Facts<'a>
-    ensures { result ≡ facts_of picture.now link.entry }
-{
-    Facts {
-        path: picture.path,
-        link: Some(link),
-        orientation: picture.orientation,
-        date_taken: picture.date_taken,
-        make: picture.make,
-        model: picture.model,
-        exposure: Exposure {
-            time: picture.exposure_time,
-            f_number: picture.f_number,
-            iso: picture.iso,
-            focal_length: picture.focal_length,
-        },
-        latitude: picture.latitude,
-        longitude: picture.longitude,
-    }
-}
-
-// The thumbnail of a picture of which this was read, or why the picture could not be read. One
-// without Exif data has none.
-fn found_in(
-    read: Result<Option<Thumbnail>, Error>,
-) -> Result<Result<Option<Thumbnail>, Error>, AllocError>
-    ensures value { IfOk result (λ found. found ≡ found_in read.entry) }
-    ensures memory { read.entry ≡ Err OutOfMemory → IsErr result }
-{
-    match read {
-        Ok(found) => Ok(Ok(found)),
-        Err(Error::NotFound(_)) => Ok(Ok(None)),
-        Err(Error::OutOfMemory) => Err(AllocError),
-        Err(error) => Ok(Err(error)),
-    }
-}
-
 impl<E: Sink> Page<'_, '_, '_, E> {
     // The thumbnail in a file, if it has one. A file that can't be read is reported.
     fn thumbnail_in(&mut self, path: &str) -> Result<Option<Thumbnail>, AllocError>
@@ -175,31 +137,6 @@ impl<E: Sink> Page<'_, '_, '_, E> {
                 Ok(None)
             }
         }
-    }
-}
-
-// What a card says of a thumbnail that is an item of a HEIF file.
-fn item_line(coding: Coding) -> &'static str
-    ensures { result.now ≡ item_line coding }
-{
-    match coding {
-        Coding::Hevc => "Thumbnail not shown: HEVC",
-        Coding::Av1 => "Thumbnail not shown: AV1",
-        Coding::Jpeg => "Thumbnail not shown: a JPEG item",
-        Coding::Other => "Thumbnail not shown: not a JPEG",
-    }
-}
-
-// What a card has for a thumbnail.
-fn shown(found: &Option<Thumbnail>) -> Shown<'_>
-    ensures { seen_as result ≡ shown found.now }
-{
-    match found {
-        Some(Thumbnail::Jpeg(jpeg)) => Shown::Jpeg(jpeg.as_slice()),
-        Some(Thumbnail::TooLong) => Shown::Line("Thumbnail not shown: longer than 1 MiB"),
-        Some(Thumbnail::CutOff) => Shown::Line("Thumbnail not shown: cut off"),
-        Some(Thumbnail::Item(coding)) => Shown::Line(item_line(*coding)),
-        None => Shown::Line("No thumbnail"),
     }
 }
 

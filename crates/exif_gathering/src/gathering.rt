@@ -1,6 +1,6 @@
 //! The pictures of a run over a catalogue, one after the other.
 
-ghost use Rattle.std.specs.Prelude.{◌≡◌, ◌≢◌, ◌++◌, ◌∷◌, [], ℕ, List, Option, String, if◌then◌else◌, not, false, true, is_some, length, IfOk, IfSome, None, OnErr, OnOk, Some, map, option_map, string_bytes};
+ghost use Rattle.std.specs.Prelude.{◌≡◌, ◌≢◌, ◌++◌, ◌∷◌, [], ℕ, List, Option, String, if◌then◌else◌, not, false, true, length, IfOk, IfSome, None, OnErr, OnOk, Some, map, option_map, string_bytes};
 ghost use Rattle.std.specs.BTreeSet.{contains_text};
 ghost use Rattle.std.specs.Global.{Global};
 ghost use Rattle.std.specs.IoError.{error_kind};
@@ -12,8 +12,9 @@ ghost use Rattle.exif_decisions.specs.Tallies.{counted};
 ghost use Rattle.exif_decisions.specs.declared.outcome.Outcome.TheVariants.{Done, Refused};
 ghost use Rattle.exif_inputs.specs.Pending.{with_counts};
 ghost use Rattle.exif_inputs.specs.Uses.{held};
-ghost use Rattle.exif_catalog_commands.specs.Gathering.{IsRowOf, counted_last, counted_step, step_of, unseen_in};
-ghost use Rattle.exif_catalog_commands.specs.Rows.{hex_text, is_whole, known_stamp, outcome_by, row_for};
+ghost use Rattle.exif_summary.specs.Choices.{is_any};
+ghost use Rattle.exif_gathering.specs.Gathering.{IsRowOf, counted_last, counted_step, step_of, unseen_in};
+ghost use Rattle.exif_gathering.specs.Rows.{hex_text, is_whole, known_stamp, outcome_by, row_for};
 
 use crate::rows::{hash_of, is_hidden, is_whole, known_stamp, row_for};
 use exif::{Error, Exif, Sink};
@@ -28,11 +29,15 @@ use std::alloc::AllocError;
 use std::collections::BTreeSet;
 use std::io;
 
-/// The pictures of a run.
+/// The pictures of a run over a catalogue, as they are named or found: their paths and stamps, and
+/// their rows as they are read.
 #[derive(Drop)]
 pub struct Gathered<'s, 'r, 'a, 'd, 'c, W, E> {
+    /// The run: its files, what is counted of them, and where messages go.
     pub session: &'s mut Session<'r, 'a, W, E>,
+    /// The catalogue, and how its pictures are read.
     pub cataloguing: &'d Cataloguing<'c>,
+    /// Whether only pictures that meet conditions are asked for.
     pub has_conditions: bool,
     /// The path of the picture that was given last, as it was named or found.
     pub shown: String,
@@ -40,6 +45,7 @@ pub struct Gathered<'s, 'r, 'a, 'd, 'c, W, E> {
     pub path: String,
     /// The paths of all that were given.
     pub seen: BTreeSet<String>,
+    /// What its file is.
     pub stamp: FileStamp,
     /// Whether it was found in a folder, and was not looked at.
     pub is_unseen: bool,
@@ -89,6 +95,38 @@ fn add_path(seen: &mut BTreeSet<String>, path: &String) -> Result<bool, AllocErr
     }
     seen.insert(path.clone()?)?;
     Ok(true)
+}
+
+impl<'s, 'r, 'a, 'd, 'c, W: Sink, E: Sink> Gathered<'s, 'r, 'a, 'd, 'c, W, E> {
+    /// The pictures of a run, of which none was given yet. Conditions are those that are requested.
+    pub fn new(
+        session: &'s mut Session<'r, 'a, W, E>,
+        cataloguing: &'d Cataloguing<'c>,
+    ) -> Gathered<'s, 'r, 'a, 'd, 'c, W, E>
+        ensures session { result.session ≡ session.entry }
+        ensures cataloguing { result.cataloguing ≡ cataloguing.entry }
+        ensures conditions { result.has_conditions ≡ is_any session.now.request.now.choice }
+        ensures begun { (result.outcome ≡ None) × (result.faults ≡ 0)
+            × (result.is_unseen ≡ false) }
+        ensures seen { (path : List ℕ) → contains_text result.seen path ≡ false }
+        ensures failed { result.failed.items ≡ [] }
+    {
+        let alloc = session.rt.alloc();
+        let has_conditions = session.request.choice.is_any();
+        Gathered {
+            shown: String::new(alloc),
+            path: String::new(alloc),
+            seen: BTreeSet::new(alloc),
+            session,
+            cataloguing,
+            has_conditions,
+            stamp: FileStamp::UNKNOWN,
+            is_unseen: false,
+            faults: 0,
+            outcome: None,
+            failed: Vec::new(alloc),
+        }
+    }
 }
 
 impl<W: Sink, E: Sink> Gathered<'_, '_, '_, '_, '_, W, E> {

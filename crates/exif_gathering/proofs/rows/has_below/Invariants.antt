@@ -1,7 +1,7 @@
 use Rattle.std.proofs.Common.{◌≡◌, drop, map}
 use Rattle.std.specs.String.{string_bytes}
-use Rattle.exif_catalog_commands.specs.Rows.{any_below}
-use Rattle.exif_catalog_commands.proofs.rows.has_below.Given as goal
+use Rattle.exif_gathering.specs.Rows.{any_below}
+use Rattle.exif_gathering.proofs.rows.has_below.Given as goal
 
 -- none of the paths so far is one
 abbrev pub invariant-loop-path : goal.invariant-loop-path

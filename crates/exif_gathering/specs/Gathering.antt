@@ -16,9 +16,9 @@ use Rattle.exif_inputs.specs.declared.stamps.FileStamp.{FileStamp}
 use Rattle.exif_types.specs.Contents.{ExifContents}
 use Rattle.exif_types.specs.Failures.{Failure}
 use Rattle.exif_reader.specs.Found.{contents_of}
-use Rattle.exif_catalog_commands.specs.Rows.{row_for}
-use Rattle.exif_catalog_commands.specs.declared.gathering.NextStep.{NextStep}
-use Rattle.exif_catalog_commands.specs.declared.gathering.NextStep.TheVariants.{Begin, Skip, RefuseInput, Fail}
+use Rattle.exif_gathering.specs.Rows.{row_for}
+use Rattle.exif_gathering.specs.declared.gathering.NextStep.{NextStep}
+use Rattle.exif_gathering.specs.declared.gathering.NextStep.TheVariants.{Begin, Skip, RefuseInput, Fail}
 
 -- ---- what comes next
 

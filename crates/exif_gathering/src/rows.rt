@@ -6,7 +6,7 @@ ghost use Rattle.sha2.specs.Sha256.{sha256};
 ghost use Rattle.exif_catalog.specs.Values.{stored};
 ghost use Rattle.exif_formats.specs.Formats.{format_name};
 ghost use Rattle.exif_json.specs.Flat.{mime_type};
-ghost use Rattle.exif_catalog_commands.specs.Rows.{any_below, hex_pair, hex_text, is_whole, known_stamp, row_for};
+ghost use Rattle.exif_gathering.specs.Rows.{any_below, hex_pair, hex_text, is_whole, known_stamp, row_for};
 
 use exif::Exif;
 use exif_catalog::{PictureFile, SqlValue, Stamp, is_below, row_values};
