@@ -6,7 +6,7 @@ ghost use Rattle.exif_base.specs.declared.endian.Order.TheVariants.{Big};
 ghost use Rattle.exif_layout.specs.Groups.{jpeg_set, pushed};
 ghost use Rattle.exif_layout.specs.Image.{image};
 ghost use Rattle.exif_layout.specs.Rewriting.{pushed_all};
-ghost use Rattle.exif_examples.specs.Fields.{orientation_field};
+ghost use Rattle.exif_tests.specs.Fields.{orientation_field};
 
 use exif::experimental::Writer;
 use exif::{Counted, Error, Exif, Field, In, Items, Tag, Value};

@@ -5,7 +5,7 @@ ghost use Rattle.exif_table.specs.declared.context.Context.TheVariants as Contex
 ghost use Rattle.exif_types.specs.declared.value.Value.TheVariants as Value;
 ghost use Rattle.exif_summary.specs.Finding.{found};
 
-use crate::dates::text;
+use crate::examples::dates::text;
 use exif::{Exif, In, Rational, Tag, Value};
 use std::fmt;
 

@@ -8,7 +8,7 @@ ghost use Rattle.exif_segments.specs.declared.remove.Remove.TheVariants.{Metadat
 ghost use Rattle.exif_rewrite.specs.RewrittenFile.{file_rewriting};
 ghost use Rattle.exif_layout.specs.Image.{image};
 ghost use Rattle.exif_layout.specs.Scrubbing.{scrubbed};
-ghost use Rattle.exif_examples.specs.Fields.{orientation_edit};
+ghost use Rattle.exif_tests.specs.Fields.{orientation_edit};
 
 use exif::{Counted, Exif, In, Items, Tag, Value};
 use exif_edit::{Edit, apply_in_file};

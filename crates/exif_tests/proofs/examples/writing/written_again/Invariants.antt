@@ -1,6 +1,6 @@
 use Rattle.std.proofs.Common.{◌≡◌, []}
 use Rattle.exif_layout.specs.Rewriting.{pushed_all}
-use Rattle.exif_examples.proofs.writing.written_again.Given as goal
+use Rattle.exif_tests.proofs.examples.writing.written_again.Given as goal
 
 -- what is left of the fields takes the writer where all of them do
 abbrev pub invariant-loop-field : goal.invariant-loop-field

@@ -3,7 +3,7 @@
 ghost use Rattle.std.specs.Prelude.{◌≡◌, None, Ok, IfOk, IfSome, option_map};
 ghost use Rattle.exif_table.specs.declared.context.Context.TheVariants as Context;
 ghost use Rattle.exif_summary.specs.Finding.{text_found};
-ghost use Rattle.exif_examples.specs.Taken.{IsSpelled};
+ghost use Rattle.exif_tests.specs.Taken.{IsSpelled};
 
 use exif::{DateTime, Error, Exif, In, Tag, Value};
 

@@ -1,5 +1,4 @@
 //! Common tasks, each in a few lines over the library: proved, tested, and quoted by the guides.
-#![tactic(auto)]
 
 pub mod changing;
 pub mod dates;
