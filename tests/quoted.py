@@ -26,7 +26,7 @@ EXAMPLES = "crates/exif_tests/src/examples"
 PICTURES = "crates/exif_tests*/src/**/examples/picture.rt"
 VERSIONS = {
     "README.md": r"The version is ([\d.]+),",
-    "crates/mexaldor/src/arguments.rt": r'\.version\("([\d.]+)"\)',
+    "crates/exif_arguments/src/arguments.rt": r'\.version\("([\d.]+)"\)',
     "docs/man/exif_show.1": r"version ([\d.]+)\.$",
     "docs/man/mexaldor.1": r'"mexaldor ([\d.]+)"',
     "bindings/c/Makefile": r"^version := ([\d.]+)$",
