@@ -2,14 +2,15 @@
 
 ghost use Rattle.std.specs.Prelude.{◌≡◌, [], false, length, IfOk, OnOk, IsErr, IsOk, map, string_bytes};
 ghost use Rattle.exif_files.specs.declared.outcome.Status.TheVariants.{Refused};
-ghost use Rattle.exif_catalog_commands.specs.Reports.{report_of};
+ghost use Rattle.exif_catalog_commands.specs.Refusals.{report_of};
 ghost use Rattle.exif_session.specs.Statuses.{IsStatus};
 
-use crate::reports::{move_text, report_of, reported_moves, reported_totals};
+use crate::gathering::Gathered;
+use crate::refusals::report_of;
 use exif::Sink;
 use exif_catalog::{Move, Totals, Updated, update};
 use exif_catalog_file::{CatalogError, RunError};
-use exif_gathering::Gathered;
+use exif_gathering::{Given, move_text, reported_moves, reported_totals};
 use exif_session::{Cataloguing, Request, Session, Stop, absolute_of};
 use std::alloc::{AllocError, Global};
 
@@ -90,7 +91,15 @@ fn update_files<W: Sink, E: Sink>(
     ensures moves { cataloguing.now.hash ≡ false
         → IfOk result (λ all. all.moves.items ≡ []) }
 {
-    let mut gathered = Gathered::new(session, cataloguing);
+    let alloc = session.rt.alloc();
+    let has_conditions = session.request.choice.is_any();
+    let mut gathered = Gathered {
+        session,
+        cataloguing,
+        has_conditions,
+        given: Given::new(alloc),
+        failed: Vec::new(alloc),
+    };
     update_rows(&mut gathered, roots)
 }
 

@@ -3,10 +3,11 @@
 #![tactic(auto)]
 
 mod catalog;
-mod page;
+mod gathering;
+mod paging;
 mod query;
-mod reports;
+mod refusals;
 
 pub use catalog::run_catalog;
-pub use page::write_page;
+pub use paging::write_page;
 pub use query::answer_query;

@@ -1,3 +1,6 @@
 pub mod Cards
-pub mod Gathering
+pub mod Given
+pub mod Pages
+pub mod Reports
 pub mod Rows
+pub mod Steps

@@ -1,9 +1,16 @@
-//! What a catalogue has of a file: the row of its picture, and what a page shows of it.
+//! What a run over a catalogue has of its pictures: the row of each, the page that shows them, and
+//! what is reported of them.
 #![tactic(auto)]
 
 mod cards;
-mod gathering;
+mod given;
+mod page;
+mod reports;
 mod rows;
+mod steps;
 
-pub use cards::{facts_of, found_in, shown};
-pub use gathering::Gathered;
+pub use given::Given;
+pub use page::page_of;
+pub use reports::{move_text, reported_moves, reported_totals};
+pub use rows::{is_hidden, is_whole};
+pub use steps::{NextStep, step_of};

@@ -1,5 +1,10 @@
 -- The page as far as it goes: the entries of its pictures, and the data of their thumbnails.
 use Rattle.std.specs.Prelude.{◌≡◌, ◌⊎◌, ℕ, List, ◌++◌, Option, Some, None, slice_get, string_bytes}
+use Rattle.std.specs.declared.alloc.AllocError.{AllocError}
+use Rattle.exif_catalog_file.specs.declared.errors.CatalogError.{CatalogError}
+use Rattle.exif_catalog_file.specs.declared.errors.CatalogError.TheVariants as catalog
+use Rattle.exif_catalog_file.specs.declared.errors.RunError.{RunError}
+use Rattle.exif_catalog_file.specs.declared.errors.RunError.TheVariants.{Catalog, Caller}
 use Rattle.exif_files.specs.declared.outcome.Status.TheVariants.{Incomplete}
 use Rattle.exif_page.specs.Pages.{end_html, entry_html, foot_html}
 use Rattle.exif_page.specs.Sections.{section_of}
@@ -7,9 +12,9 @@ use Rattle.exif_page.specs.Thumbnails.{thumbnail_html}
 use Rattle.exif_page.specs.declared.entries.Entry.{Entry}
 use Rattle.exif_page.specs.declared.sections.Section.{Section}
 use Rattle.exif_page.specs.declared.sections.Section.TheVariants as section
-use Rattle.exif_catalog_commands.specs.declared.page.Parts.{Parts}
-use Rattle.exif_catalog_commands.specs.declared.page.LastSection.{LastSection}
-use Rattle.exif_catalog_commands.specs.declared.page.LastSection.TheVariants as last
+use Rattle.exif_gathering.specs.declared.page.Parts.{Parts}
+use Rattle.exif_gathering.specs.declared.page.LastSection.{LastSection}
+use Rattle.exif_gathering.specs.declared.page.LastSection.TheVariants as last
 
 -- a section: none, that of a day, or that of the pictures without one
 abbrev pub section_as : Section → Option (Option (List ℕ))
@@ -44,3 +49,8 @@ pub record AddsPicture (old : Parts) (row : List (Option (List ℕ))) (new : Par
 abbrev pub IsWhole : Parts → List ℕ → Type 0
 IsWhole parts page = (before : Section) × (section_as before ≡ last_as parts.section)
     × (page ≡ parts.html.items ++ (foot_html before ++ (parts.thumbnails.items ++ end_html)))
+
+-- Why no page was made: a visitor fails only where memory runs out.
+abbrev pub visit_refusal : RunError AllocError → CatalogError
+visit_refusal (Catalog error) = error
+visit_refusal (Caller memory) = catalog.OutOfMemory

@@ -1,5 +1,5 @@
 use Rattle.std.proofs.Common.{rules}
-use Rattle.exif_gathering.proofs.gathering.Gathered.read_row.Goals as goal
+use Rattle.exif_gathering.proofs.given.Given.read_row.Goals as goal
 
 pub returns-clause-row : goal.returns-clause-row
 returns-clause-row g c = record {

@@ -1,7 +1,7 @@
 use Rattle.std.proofs.Common.{rules}
 use Rattle.exif_catalog_file.specs.Shown.{row_texts}
-use Rattle.exif_catalog_commands.proofs.PageLemmas.{adds_picture}
-use Rattle.exif_catalog_commands.proofs.page.PageVisitor.visit.Goals as goal
+use Rattle.exif_gathering.proofs.PageLemmas.{adds_picture}
+use Rattle.exif_gathering.proofs.page.PageVisitor.visit.Goals as goal
 
 pub returns : goal.returns
 returns g c = record {

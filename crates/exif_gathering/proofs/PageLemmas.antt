@@ -9,8 +9,8 @@ use Rattle.exif_page.specs.declared.entries.Entry.{Entry}
 use Rattle.exif_page.specs.declared.sections.Section.{Section}
 use Rattle.exif_page.specs.declared.sections.Section.TheVariants.{Closed, Day, Undated}
 use Rattle.exif_files.specs.declared.outcome.Status.TheVariants.{Incomplete, Success}
-use Rattle.exif_catalog_commands.specs.Pages.{AddsEntry, AddsPicture, IsWhole, last_as, section_as}
-use Rattle.exif_catalog_commands.specs.declared.page.Parts.{Parts}
+use Rattle.exif_gathering.specs.Pages.{AddsEntry, AddsPicture, IsWhole, last_as, section_as}
+use Rattle.exif_gathering.specs.declared.page.Parts.{Parts}
 
 -- the steps of what shows pictures are steps of its page
 pub steps_of : {X Y A : Type 0} (view : X → Y) (Step : Y → A → Y → Type 0) (items : List A) (old new : X)

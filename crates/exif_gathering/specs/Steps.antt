@@ -1,26 +1,14 @@
--- The pictures of a run over a catalogue.
-use Rattle.std.specs.Prelude.{◌≡◌, ℕ, Bool, false, not, List, take, Option, None, Some, option_map, IfSome, Result, Ok}
-use Rattle.exif_catalog.specs.Values.{Stored}
+-- What is done with what a run over a catalogue gives next, and what is counted with it.
+use Rattle.std.specs.Prelude.{Bool, false, not, Option, None, Some}
 use Rattle.exif_decisions.specs.Tallies.{counted, skipped}
 use Rattle.exif_decisions.specs.declared.counts.Counts.{Counts}
 use Rattle.exif_decisions.specs.declared.found.Found.TheVariants.{NotRead}
 use Rattle.exif_decisions.specs.declared.outcome.Outcome.{Outcome}
 use Rattle.exif_decisions.specs.declared.outcome.Outcome.TheVariants.{Refused}
-use Rattle.exif_formats.specs.Formats.{format_in}
-use Rattle.exif_formats.specs.Pictures.{ReadsPicture}
-use Rattle.exif_formats.specs.declared.format.PictureFormat.{PictureFormat}
-use Rattle.exif_formats.specs.declared.options.Options.{Options}
 use Rattle.exif_inputs.specs.declared.pending.Next.{Next}
 use Rattle.exif_inputs.specs.declared.pending.Next.TheVariants as next
-use Rattle.exif_inputs.specs.declared.stamps.FileStamp.{FileStamp}
-use Rattle.exif_types.specs.Contents.{ExifContents}
-use Rattle.exif_types.specs.Failures.{Failure}
-use Rattle.exif_reader.specs.Found.{contents_of}
-use Rattle.exif_gathering.specs.Rows.{row_for}
-use Rattle.exif_gathering.specs.declared.gathering.NextStep.{NextStep}
-use Rattle.exif_gathering.specs.declared.gathering.NextStep.TheVariants.{Begin, Skip, RefuseInput, Fail}
-
--- ---- what comes next
+use Rattle.exif_gathering.specs.declared.steps.NextStep.{NextStep}
+use Rattle.exif_gathering.specs.declared.steps.NextStep.TheVariants.{Begin, Skip, RefuseInput, Fail}
 
 -- A file that is named is a picture. So is one that was found in a folder and meets conditions,
 -- since it was looked at for them; without conditions it may be none. Standard input has no name
@@ -50,16 +38,3 @@ counted_step (Fail path cause) counts = counted Refused counts
 abbrev pub counted_last : Option Outcome → Counts → Counts
 counted_last None counts = counts
 counted_last (Some outcome) counts = counted outcome counts
-
--- ---- what is read of a picture
-
--- A row is that of a picture that was read so: its format is that of its first bytes, where they
--- are known, and its Exif data those that a reader answers, of which so many faults were skipped.
-pub record IsRowOf (path : List ℕ) (stamp : FileStamp) (hash : Option (List ℕ)) (options : Options) (bytes : Option (List ℕ)) (faults : ℕ) (row : List Stored) : Type 0 where
-  pub format : Option PictureFormat
-  pub answer : Result ExifContents Failure
-  pub exif : Option ExifContents
-  pub is : row ≡ row_for path stamp hash format (option_map (λ it. it.fields) exif)
-  pub contents : contents_of answer ≡ Ok (exif, faults)
-  pub format_is : IfSome bytes (λ all. format ≡ format_in (take 4096 all))
-  pub reads : IfSome bytes (λ all. ReadsPicture options.lenient options.limit all answer)

@@ -1,5 +1,5 @@
 use Rattle.std.proofs.Common.{◌≡◌}
-use Rattle.exif_gathering.proofs.gathering.Gathered.next_picture.Given as goal
+use Rattle.exif_catalog_commands.proofs.gathering.Gathered.next_picture.Given as goal
 
 -- the session is the one that was given
 abbrev pub invariant-files : goal.invariant-files

@@ -1,7 +1,7 @@
 use Rattle.std.proofs.Common.{codes, inl, refl}
-use Rattle.exif_catalog_commands.specs.Pages.{AddsPicture}
-use Rattle.exif_catalog_commands.proofs.PageLemmas.{pages_of, steps_of, value_of, whole_page, worst_of}
-use Rattle.exif_catalog_commands.proofs.page.page_of.Goals as goal
+use Rattle.exif_gathering.specs.Pages.{AddsPicture}
+use Rattle.exif_gathering.proofs.PageLemmas.{pages_of, steps_of, value_of, whole_page, worst_of}
+use Rattle.exif_gathering.proofs.page.page_of.Goals as goal
 
 pub returns-clause-page : goal.returns-clause-page
 returns-clause-page g c =

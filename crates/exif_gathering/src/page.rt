@@ -3,25 +3,21 @@
 ghost use Rattle.std.specs.Prelude.{◌≡◌, ◌⊎◌, ◌++◌, List, IfOk, IsSome, OnOk, codes, string_bytes};
 ghost use Rattle.exif_catalog_file.specs.Shown.{row_texts};
 ghost use Rattle.exif_decisions.specs.Paths.{slash_after};
-ghost use Rattle.exif_files.specs.Statuses.{code};
-ghost use Rattle.exif_files.specs.declared.outcome.Status.TheVariants.{Incomplete, Refused, Success};
+ghost use Rattle.exif_files.specs.declared.outcome.Status.TheVariants.{Incomplete, Success};
 ghost use Rattle.exif_page.specs.Pages.{page_html};
 ghost use Rattle.exif_page.specs.declared.entries.Entry.{Entry};
-ghost use Rattle.exif_catalog_commands.specs.Pages.{AddsEntry, AddsPicture, IsWhole, last_as, section_as};
-ghost use Rattle.exif_session.specs.Statuses.{IsStatus};
+ghost use Rattle.exif_gathering.specs.Pages.{AddsEntry, AddsPicture, IsWhole, last_as, section_as, visit_refusal};
 
-use crate::reports::{refusal_of, visit_refusal};
+use crate::cards::{facts_of, found_in, shown};
 use exif::Sink;
 use exif_catalog_file::{CatalogError, PictureRow, RunError, Visitor, visit};
 use exif_decisions::slash_after;
-use exif_files::{Status, folder_of};
-use exif_gathering::{facts_of, found_in, shown};
+use exif_files::Status;
 use exif_inputs::{Console, thumbnail_of};
 use exif_page::{
     Entry, Section, end_html, entry_html, entry_of, foot_html, head_html, link_to, section_of,
     texts_of, thumbnail_html,
 };
-use exif_session::{Paging, Stop, absolute_of, out_of, write_out};
 use exif_thumbnails::Thumbnail;
 use std::alloc::{AllocError, Global};
 
@@ -159,41 +155,14 @@ impl<E: Sink> Visitor for Page<'_, '_, '_, E> {
     }
 }
 
-/// Writes a page with the pictures of a catalogue to OUT, and answers the status: 0, 3 where a
-/// picture could not be read for its thumbnail, or 1 where there is no page. It takes twice the
-/// memory of the page.
-pub fn write_page<W: Sink, E: Sink>(
-    rt: &HostRuntime,
-    paging: &Paging<'_>,
-    out: &mut W,
-    err: &mut E,
-) -> Result<u8, Stop>
-    ensures { IfOk result IsStatus }
+// Why no page was made: the catalogue was refused, or memory ran out.
+fn visit_refusal(error: RunError<AllocError>) -> CatalogError
+    ensures { result ≡ visit_refusal error }
 {
-    let mut console = Console::new(rt, err, false);
-    let destination = match out_of(rt, paging.database, paging.to, paging.force)? {
-        Ok(destination) => destination,
-        Err(error) => return Ok(refused(&mut console, paging, &error)),
-    };
-    let (html, worst) = match page_of(rt, paging, &mut console) {
-        Ok(page) => page,
-        Err(error) => {
-            let refusal = refusal_of(RunError::Catalog(error))?;
-            return Ok(refused(&mut console, paging, &refusal));
-        }
-    };
-    let written = write_out(rt, paging.to, destination, html.as_slice(), out)?;
-    out.flush().map_err(Stop::Output)?;
-    match written {
-        Ok(()) => Ok(worst.code()),
-        Err(error) => Ok(refused(&mut console, paging, &error)),
+    match error {
+        RunError::Catalog(error) => error,
+        RunError::Caller(_memory) => CatalogError::OutOfMemory,
     }
-}
-
-// The folder that a page is written to, which ends with a slash; the one that the program runs in
-// for standard output.
-fn folder_in(rt: &HostRuntime, to: &str) -> Result<String, AllocError> {
-    with_slash(absolute_of(rt, folder_of(to))?)
 }
 
 // A folder that ends with a slash.
@@ -206,22 +175,13 @@ fn with_slash(mut folder: String) -> Result<String, AllocError>
     Ok(folder)
 }
 
-// Reports why there is no page, and answers the status.
-fn refused<E: Sink, T: std::fmt::Display>(
-    console: &mut Console<'_, E>,
-    paging: &Paging<'_>,
-    cause: &T,
-) -> u8
-    ensures { result ≡ code Refused }
-{
-    console.say(paging.database, cause);
-    Status::Refused.code()
-}
-
-// The page, and the worst status of a picture.
-fn page_of<E: Sink>(
+/// A page with the pictures of a catalogue, to be written to a folder, and the worst status of a
+/// picture: 3 where one could not be read for its thumbnail, which is reported. It takes twice the
+/// memory of the page.
+pub fn page_of<E: Sink>(
     rt: &HostRuntime,
-    paging: &Paging<'_>,
+    database: &str,
+    folder: String,
     console: &mut Console<'_, E>,
 ) -> Result<(Vec<u8>, Status), CatalogError>
     ensures page { IfOk result (λ page. (entries : List Entry)
@@ -238,10 +198,10 @@ fn page_of<E: Sink>(
     let mut page = Page {
         rt,
         console,
-        folder: folder_in(rt, paging.to)?,
+        folder: with_slash(folder)?,
         parts,
     };
-    visit(rt, paging.database, &mut page).map_err(visit_refusal)?;
+    visit(rt, database, &mut page).map_err(visit_refusal)?;
     let Page { parts, .. } = page;
     let worst = parts.worst;
     Ok((parts.whole(rt.alloc())?, worst))
