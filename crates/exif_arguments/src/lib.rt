@@ -1,5 +1,5 @@
-//! The command line of `mexaldor`: its subcommands and their options, and the request that those make
-//! which are given, or what is wrong with them.
+//! The command line of `mexaldor`: its subcommands and their options, and the request that those
+//! make which are given, or what is wrong with them.
 #![tactic(auto)]
 
 mod arguments;

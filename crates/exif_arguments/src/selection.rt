@@ -122,7 +122,8 @@ fn camera_of<'a>(matches: &ArgMatches<'a>) -> Option<&'a [u8]>
 
 // The time that an option names, if it is given.
 fn date_of(alloc: Global, text: Option<&str>) -> Answer<Option<u64>>
-    ensures { IfOk result (λ answer. answer_by (λ time. time) answer ≡ date_by (name_if text.entry)) }
+    ensures { IfOk result (λ answer. answer_by (λ time. time) answer
+        ≡ date_by (name_if text.entry)) }
 {
     let Some(text) = text else {
         return Ok(Ok(None));

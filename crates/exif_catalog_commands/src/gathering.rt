@@ -207,7 +207,8 @@ impl<W: Sink, E: Sink> Pictures for Gathered<'_, '_, '_, '_, '_, W, E> {
     }
 
     fn row(&mut self) -> Result<FileRow, Stop>
-        ensures ends { IfOk result (λ row. self.new.given.outcome ≡ outcome_by row self.new.given.faults) }
+        ensures ends { IfOk result
+            (λ row. self.new.given.outcome ≡ outcome_by row self.new.given.faults) }
         ensures same { self.new.session.ghost_name ≡ self.old.session.ghost_name }
     {
         if !self.is_picture()? {
