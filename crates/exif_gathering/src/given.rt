@@ -1,6 +1,6 @@
 //! The picture that a run over a catalogue gave last, and its row.
 
-ghost use Rattle.std.specs.Prelude.{◌≡◌, ℕ, List, Option, if◌then◌else◌, not, false, true, IfOk, IfSome, None, OnOk, Some, map, option_map, string_bytes};
+ghost use Rattle.std.specs.Prelude.{◌≡◌, [], ℕ, List, Option, if◌then◌else◌, not, false, true, IfOk, IfSome, None, OnOk, Some, map, option_map, string_bytes};
 ghost use Rattle.std.specs.BTreeSet.{contains_text};
 ghost use Rattle.std.specs.Str.{bytes_eq};
 ghost use Rattle.sha2.specs.Sha256.{sha256};
@@ -57,7 +57,9 @@ fn add_path(seen: &mut BTreeSet<String>, path: &String) -> Result<bool, AllocErr
 impl Given {
     /// No picture was given yet.
     pub fn new(alloc: Global) -> Given
-        ensures none { result.outcome ≡ None }
+        ensures none { (result.outcome ≡ None) × (result.faults ≡ 0)
+            × (result.is_unseen ≡ false) }
+        ensures paths { (string_bytes result.shown ≡ []) × (string_bytes result.path ≡ []) }
         ensures seen { (path : List ℕ) → contains_text result.seen path ≡ false }
     {
         Given {

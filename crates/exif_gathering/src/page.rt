@@ -176,8 +176,8 @@ fn with_slash(mut folder: String) -> Result<String, AllocError>
 }
 
 /// A page with the pictures of a catalogue, to be written to a folder, and the worst status of a
-/// picture: 3 where one could not be read for its thumbnail, which is reported. It takes twice the
-/// memory of the page.
+/// picture: incomplete where one could not be read for its thumbnail, which is reported. There is
+/// no page where the catalogue is refused or memory runs out. It takes twice the memory of the page.
 pub fn page_of<E: Sink>(
     rt: &HostRuntime,
     database: &str,
