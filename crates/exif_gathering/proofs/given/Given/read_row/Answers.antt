@@ -1,8 +1,8 @@
 use Rattle.std.proofs.Common.{rules}
 use Rattle.exif_gathering.proofs.given.Given.read_row.Goals as goal
 
-pub returns-clause-row : goal.returns-clause-row
-returns-clause-row g c = record {
+pub returns : goal.returns
+returns c = record {
   format = c.in_ok-format.format;
   answer = c.in_ok-format.answer;
   exif = c.in_ok-exif.exif;
