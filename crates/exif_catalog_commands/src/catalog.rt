@@ -10,7 +10,7 @@ use crate::refusals::report_of;
 use exif::Sink;
 use exif_catalog::{Move, Totals, Updated, update};
 use exif_catalog_file::{CatalogError, RunError};
-use exif_gathering::{Given, move_text, reported_moves, reported_totals};
+use exif_gathering::{LastPicture, move_text, reported_moves, reported_totals};
 use exif_session::{Cataloguing, Request, Session, Stop, absolute_of};
 use std::alloc::{AllocError, Global};
 
@@ -97,7 +97,7 @@ fn update_files<W: Sink, E: Sink>(
         session,
         cataloguing,
         has_conditions,
-        given: Given::new(alloc),
+        last: LastPicture::new(alloc),
         failed: Vec::new(alloc),
     };
     update_rows(&mut gathered, roots)

@@ -14,7 +14,7 @@ ghost use Rattle.exif_inputs.specs.Pending.{with_counts};
 use exif::{Error, Sink};
 use exif_catalog::{FileRow, Found, Pictures};
 use exif_decisions as decisions;
-use exif_gathering::{Given, NextStep, is_hidden, is_whole, step_of};
+use exif_gathering::{LastPicture, NextStep, is_hidden, is_whole, step_of};
 use exif_inputs::Next;
 use exif_session::{Cataloguing, Session, Stop, absolute_of};
 use std::io;
@@ -26,7 +26,7 @@ pub struct Gathered<'s, 'r, 'a, 'd, 'c, W, E> {
     pub cataloguing: &'d Cataloguing<'c>,
     pub has_conditions: bool,
     /// The picture that was given last.
-    pub given: Given,
+    pub last: LastPicture,
     /// The names that could not be followed.
     pub failed: Vec<String>,
 }
@@ -35,17 +35,17 @@ impl<W: Sink, E: Sink> Gathered<'_, '_, '_, '_, '_, W, E> {
     // Counts the picture that was given last, once.
     fn end_picture(&mut self)
         ensures counted { self.new.session.now.pending ≡ with_counts
-            (counted_last self.old.given.outcome self.old.session.now.pending.counts)
+            (counted_last self.old.last.outcome self.old.session.now.pending.counts)
             self.old.session.now.pending }
-        ensures outcome { self.new.given.outcome ≡ None }
+        ensures outcome { self.new.last.outcome ≡ None }
         ensures same { self.new.session.ghost_name ≡ self.old.session.ghost_name }
     {
-        if let Some(outcome) = self.given.outcome {
+        if let Some(outcome) = self.last.outcome {
             self.session.count(outcome);
             let left = self.session.pending.len();
             self.session.console.step(left);
         }
-        self.given.outcome = None;
+        self.last.outcome = None;
     }
 
     // Reports a name that leads to no picture, and counts it.
@@ -98,18 +98,18 @@ impl<W: Sink, E: Sink> Gathered<'_, '_, '_, '_, '_, W, E> {
     // Begins with a picture. One that was there before, by whatever path, is not given again.
     fn begin_picture(&mut self, shown: String, is_unseen: bool) -> Result<Option<Found>, Stop>
         ensures stamp { IfOk result (λ found. IfSome found
-            (λ found. found.stamp ≡ known_stamp self.new.given.stamp)) }
+            (λ found. found.stamp ≡ known_stamp self.new.last.stamp)) }
         ensures begun { IfOk result (λ found. IfSome found (λ found.
-            (self.new.given.outcome ≡ Some Done) × (self.new.given.faults ≡ 0))) }
+            (self.new.last.outcome ≡ Some Done) × (self.new.last.faults ≡ 0))) }
         ensures unseen { IfOk result (λ found. IfSome found
-            (λ found. self.new.given.is_unseen ≡ is_unseen)) }
+            (λ found. self.new.last.is_unseen ≡ is_unseen)) }
         ensures new { IfOk result (λ found. IfSome found (λ found.
-            contains_text self.old.given.seen (string_bytes self.new.given.path) ≡ false)) }
+            contains_text self.old.last.seen (string_bytes self.new.last.path) ≡ false)) }
         ensures session { self.new.session ≡ self.old.session }
     {
         let rt = self.session.rt;
         let path = absolute_of(rt, shown.as_str())?;
-        Ok(self.given.begin(rt, path, shown, is_unseen)?)
+        Ok(self.last.begin(rt, path, shown, is_unseen)?)
     }
 
     // Does a step. It answers the picture that it begins with, if it is one that was not given
@@ -119,10 +119,10 @@ impl<W: Sink, E: Sink> Gathered<'_, '_, '_, '_, '_, W, E> {
             (counted_step step self.old.session.now.pending.counts)
             self.old.session.now.pending) }
         ensures begun { IfOk result (λ found. IfSome found (λ found.
-            (unseen_in step ≡ Some self.new.given.is_unseen) × (self.new.given.outcome ≡ Some Done)
-            × (self.new.given.faults ≡ 0) × (found.stamp ≡ known_stamp self.new.given.stamp))) }
+            (unseen_in step ≡ Some self.new.last.is_unseen) × (self.new.last.outcome ≡ Some Done)
+            × (self.new.last.faults ≡ 0) × (found.stamp ≡ known_stamp self.new.last.stamp))) }
         ensures new { IfOk result (λ found. IfSome found (λ found.
-            contains_text self.old.given.seen (string_bytes self.new.given.path) ≡ false)) }
+            contains_text self.old.last.seen (string_bytes self.new.last.path) ≡ false)) }
         ensures same { self.new.session.ghost_name ≡ self.old.session.ghost_name }
     {
         match step {
@@ -142,8 +142,8 @@ impl<W: Sink, E: Sink> Gathered<'_, '_, '_, '_, '_, W, E> {
         ensures ended { IfOk result (λ found. found ≡ None
             → length self.new.session.now.pending.waiting.items ≡ 0) }
         ensures begun { IfOk result (λ found. IfSome found (λ found.
-            (self.new.given.outcome ≡ Some Done) × (self.new.given.faults ≡ 0)
-            × (found.stamp ≡ known_stamp self.new.given.stamp))) }
+            (self.new.last.outcome ≡ Some Done) × (self.new.last.faults ≡ 0)
+            × (found.stamp ≡ known_stamp self.new.last.stamp))) }
         ensures same { self.new.session.ghost_name ≡ self.old.session.ghost_name }
     {
         'files: for _ in 0..u64::MAX {
@@ -160,13 +160,13 @@ impl<W: Sink, E: Sink> Gathered<'_, '_, '_, '_, '_, W, E> {
     // Whether the file that was given last is a picture, by its first bytes where they were not
     // looked at; one that is none is skipped.
     fn is_picture(&mut self) -> Result<bool, Stop>
-        ensures seen { self.old.given.is_unseen ≡ false → IfOk result (λ is. is ≡ true) }
+        ensures seen { self.old.last.is_unseen ≡ false → IfOk result (λ is. is ≡ true) }
         ensures same { self.new.session.ghost_name ≡ self.old.session.ghost_name }
     {
-        if !self.given.is_unseen {
+        if !self.last.is_unseen {
             return Ok(true);
         }
-        let path = self.given.shown.clone()?;
+        let path = self.last.shown.clone()?;
         match self.session.chosen(Next::Found(path))? {
             Some(Next::Beside(path, why)) => {
                 let found = decisions::Found::NotRead(why);
@@ -192,8 +192,8 @@ impl<W: Sink, E: Sink> Pictures for Gathered<'_, '_, '_, '_, '_, W, E> {
         ensures ended { IfOk result (λ found. found ≡ None
             → length self.new.session.now.pending.waiting.items ≡ 0) }
         ensures begun { IfOk result (λ found. IfSome found (λ found.
-            (self.new.given.outcome ≡ Some Done) × (self.new.given.faults ≡ 0)
-            × (found.stamp ≡ known_stamp self.new.given.stamp))) }
+            (self.new.last.outcome ≡ Some Done) × (self.new.last.faults ≡ 0)
+            × (found.stamp ≡ known_stamp self.new.last.stamp))) }
         ensures same { self.new.session.ghost_name ≡ self.old.session.ghost_name }
     {
         self.end_picture();
@@ -208,28 +208,28 @@ impl<W: Sink, E: Sink> Pictures for Gathered<'_, '_, '_, '_, '_, W, E> {
 
     fn row(&mut self) -> Result<FileRow, Stop>
         ensures ends { IfOk result
-            (λ row. self.new.given.outcome ≡ outcome_by row self.new.given.faults) }
+            (λ row. self.new.last.outcome ≡ outcome_by row self.new.last.faults) }
         ensures same { self.new.session.ghost_name ≡ self.old.session.ghost_name }
     {
         if !self.is_picture()? {
-            self.given.outcome = None;
+            self.last.outcome = None;
             return Ok(FileRow::NoPicture);
         }
         let options = self.cataloguing.reading.options();
         let row = self
-            .given
+            .last
             .row(self.session.rt, options, self.cataloguing.hash);
         match row {
             Ok(values) => {
                 let outcome = self
                     .session
-                    .skip_faults(self.given.shown.as_str(), self.given.faults)?;
-                self.given.outcome = Some(outcome);
+                    .skip_faults(self.last.shown.as_str(), self.last.faults)?;
+                self.last.outcome = Some(outcome);
                 Ok(FileRow::Values(values))
             }
             Err(Error::OutOfMemory) => Err(Stop::OutOfMemory),
             Err(error) => {
-                self.given.outcome = Some(self.session.refuse(self.given.shown.as_str(), &error)?);
+                self.last.outcome = Some(self.session.refuse(self.last.shown.as_str(), &error)?);
                 Ok(FileRow::Unreadable)
             }
         }

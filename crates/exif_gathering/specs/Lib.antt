@@ -1,5 +1,5 @@
 pub mod Cards
-pub mod Given
+pub mod Last
 pub mod Pages
 pub mod Reports
 pub mod Rows

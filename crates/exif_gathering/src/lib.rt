@@ -3,13 +3,13 @@
 #![tactic(auto)]
 
 mod cards;
-mod given;
+mod last;
 mod page;
 mod reports;
 mod rows;
 mod steps;
 
-pub use given::Given;
+pub use last::LastPicture;
 pub use page::page_of;
 pub use reports::{move_text, reported_moves, reported_totals};
 pub use rows::{is_hidden, is_whole};

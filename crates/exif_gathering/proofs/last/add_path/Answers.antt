@@ -3,7 +3,7 @@ use Rattle.std.proofs.lemmas.Map.Text.{btree_set_updates_text}
 use Rattle.std.specs.BTreeSet.{contains_text}
 use Rattle.std.specs.Str.{bytes_eq}
 use Rattle.std.specs.String.{string_bytes}
-use Rattle.exif_gathering.proofs.given.add_path.Goals as goal
+use Rattle.exif_gathering.proofs.last.add_path.Goals as goal
 
 pub returns-clause-seen : goal.returns-clause-seen
 returns-clause-seen c = λ q.

@@ -7,7 +7,7 @@ ghost use Rattle.sha2.specs.Sha256.{sha256};
 ghost use Rattle.exif_catalog.specs.Values.{stored};
 ghost use Rattle.exif_decisions.specs.declared.outcome.Outcome.TheVariants.{Done};
 ghost use Rattle.exif_inputs.specs.Uses.{held};
-ghost use Rattle.exif_gathering.specs.Given.{IsRowOf};
+ghost use Rattle.exif_gathering.specs.Last.{IsRowOf};
 ghost use Rattle.exif_gathering.specs.Rows.{hex_text, known_stamp, row_for};
 
 use crate::rows::{hash_of, known_stamp, row_for};
@@ -23,7 +23,7 @@ use std::collections::BTreeSet;
 
 /// The picture that was given last, and the paths of all that were given.
 #[derive(Drop)]
-pub struct Given {
+pub struct LastPicture {
     /// Its path, as it was named or found.
     pub shown: String,
     /// The path of its row.
@@ -54,15 +54,15 @@ fn add_path(seen: &mut BTreeSet<String>, path: &String) -> Result<bool, AllocErr
     Ok(true)
 }
 
-impl Given {
+impl LastPicture {
     /// No picture was given yet.
-    pub fn new(alloc: Global) -> Given
+    pub fn new(alloc: Global) -> LastPicture
         ensures none { (result.outcome ≡ None) × (result.faults ≡ 0)
             × (result.is_unseen ≡ false) }
         ensures paths { (string_bytes result.shown ≡ []) × (string_bytes result.path ≡ []) }
         ensures seen { (path : List ℕ) → contains_text result.seen path ≡ false }
     {
-        Given {
+        LastPicture {
             shown: String::new(alloc),
             path: String::new(alloc),
             seen: BTreeSet::new(alloc),

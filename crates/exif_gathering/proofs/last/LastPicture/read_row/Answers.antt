@@ -1,5 +1,5 @@
 use Rattle.std.proofs.Common.{rules}
-use Rattle.exif_gathering.proofs.given.Given.read_row.Goals as goal
+use Rattle.exif_gathering.proofs.last.LastPicture.read_row.Goals as goal
 
 pub returns : goal.returns
 returns c = record {
