@@ -1,9 +1,9 @@
 """Checks what the guides quote: python3 tests/quoted.py, from the root.
 
-Each block of Rust in a guide, or in a comment of a public item, is a run of lines of one file of crates/exif_examples,
-except for its indentation. README's program (the block with `fn main`) is run by `rt try` in a copy of the crates.
-What follows `$ ./exif_show` and `$ mexaldor` in README is what the programs print. docs/sample.jpg is what make_sample.py makes, and
-the picture of the examples' tests. Each part has the version of CHANGELOG.md.
+Each block of Rust in a guide, or in a comment of a public item, is a run of lines of one file of
+crates/exif_tests/src/examples, except for its indentation. README's program (the block with `fn main`) is run by `rt try`
+in a copy of the crates. What follows `$ ./exif_show` and `$ mexaldor` in README is what the programs print. docs/sample.jpg
+is what make_sample.py makes, and the picture of the examples' tests. Each part has the version of CHANGELOG.md.
 """
 
 import ast
@@ -22,11 +22,11 @@ from make_sample import sample
 
 GUIDES = ["README.md", "docs/CALLING.md"]
 SOURCES = "crates/*/src/**/*.rt"
-EXAMPLES = "crates/exif_examples/src"
+EXAMPLES = "crates/exif_tests/src/examples"
 PICTURES = "crates/exif_tests*/src/**/examples/picture.rt"
 VERSIONS = {
     "README.md": r"The version is ([\d.]+),",
-    "crates/mexaldor/src/arguments.rt": r'\.version\("([\d.]+)"\)',
+    "crates/exif_arguments/src/arguments.rt": r'\.version\("([\d.]+)"\)',
     "docs/man/exif_show.1": r"version ([\d.]+)\.$",
     "docs/man/mexaldor.1": r'"mexaldor ([\d.]+)"',
     "bindings/c/Makefile": r"^version := ([\d.]+)$",

@@ -1,4 +1,1 @@
-pub mod Gathering
-pub mod Pages
-pub mod Reports
-pub mod Rows
+pub mod Refusals

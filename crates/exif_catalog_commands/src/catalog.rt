@@ -2,18 +2,17 @@
 
 ghost use Rattle.std.specs.Prelude.{◌≡◌, [], false, length, IfOk, OnOk, IsErr, IsOk, map, string_bytes};
 ghost use Rattle.exif_files.specs.declared.outcome.Status.TheVariants.{Refused};
-ghost use Rattle.exif_catalog_commands.specs.Reports.{report_of};
+ghost use Rattle.exif_catalog_commands.specs.Refusals.{report_of};
 ghost use Rattle.exif_session.specs.Statuses.{IsStatus};
 
 use crate::gathering::Gathered;
-use crate::reports::{move_text, report_of, reported_moves, reported_totals};
+use crate::refusals::report_of;
 use exif::Sink;
 use exif_catalog::{Move, Totals, Updated, update};
 use exif_catalog_file::{CatalogError, RunError};
-use exif_inputs::FileStamp;
+use exif_gathering::{LastPicture, move_text, reported_moves, reported_totals};
 use exif_session::{Cataloguing, Request, Session, Stop, absolute_of};
 use std::alloc::{AllocError, Global};
-use std::collections::BTreeSet;
 
 // The paths from the root of the file system on of the names that were given.
 fn roots_of(rt: &HostRuntime, paths: &[&str]) -> Result<Vec<String>, AllocError>
@@ -95,16 +94,10 @@ fn update_files<W: Sink, E: Sink>(
     let alloc = session.rt.alloc();
     let has_conditions = session.request.choice.is_any();
     let mut gathered = Gathered {
-        shown: String::new(alloc),
-        path: String::new(alloc),
-        seen: BTreeSet::new(alloc),
         session,
         cataloguing,
         has_conditions,
-        stamp: FileStamp::UNKNOWN,
-        is_unseen: false,
-        faults: 0,
-        outcome: None,
+        last: LastPicture::new(alloc),
         failed: Vec::new(alloc),
     };
     update_rows(&mut gathered, roots)

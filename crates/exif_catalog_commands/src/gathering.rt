@@ -1,31 +1,22 @@
 //! The pictures of a run over a catalogue, one after the other.
 
-ghost use Rattle.std.specs.Prelude.{◌≡◌, ◌≢◌, ◌++◌, ◌∷◌, [], ℕ, List, Option, String, if◌then◌else◌, not, false, true, is_some, length, IfOk, IfSome, None, OnErr, OnOk, Some, map, option_map, string_bytes};
+ghost use Rattle.std.specs.Prelude.{◌≡◌, ◌≢◌, ◌++◌, ◌∷◌, [], String, false, true, length, IfOk, IfSome, None, OnErr, OnOk, Some, map, string_bytes};
 ghost use Rattle.std.specs.BTreeSet.{contains_text};
 ghost use Rattle.std.specs.Global.{Global};
 ghost use Rattle.std.specs.IoError.{error_kind};
-ghost use Rattle.std.specs.Str.{bytes_eq};
 ghost use Rattle.std.specs.declared.io.ErrorKind.TheVariants.{NotFound};
-ghost use Rattle.sha2.specs.Sha256.{sha256};
-ghost use Rattle.exif_catalog.specs.Values.{stored};
 ghost use Rattle.exif_decisions.specs.Tallies.{counted};
 ghost use Rattle.exif_decisions.specs.declared.outcome.Outcome.TheVariants.{Done, Refused};
+ghost use Rattle.exif_gathering.specs.Rows.{is_whole, known_stamp, outcome_by};
+ghost use Rattle.exif_gathering.specs.Steps.{counted_last, counted_step, unseen_in};
 ghost use Rattle.exif_inputs.specs.Pending.{with_counts};
-ghost use Rattle.exif_inputs.specs.Uses.{held};
-ghost use Rattle.exif_catalog_commands.specs.Gathering.{IsRowOf, counted_last, counted_step, step_of, unseen_in};
-ghost use Rattle.exif_catalog_commands.specs.Rows.{hex_text, is_whole, known_stamp, outcome_by, row_for};
 
-use crate::rows::{hash_of, is_hidden, is_whole, known_stamp, row_for};
-use exif::{Error, Exif, Sink};
-use exif_catalog::{FileRow, Found, Pictures, SqlValue};
-use exif_catalog_file::text_of;
-use exif_decisions::{self as decisions, NotRead, Outcome};
-use exif_formats::{Options, Picture, PictureFormat};
-use exif_inputs::{FileStamp, Input, Next, open, read, read_file, stamp_of};
-use exif_reader::report::contents_of;
+use exif::{Error, Sink};
+use exif_catalog::{FileRow, Found, Pictures};
+use exif_decisions as decisions;
+use exif_gathering::{LastPicture, NextStep, is_hidden, is_whole, step_of};
+use exif_inputs::Next;
 use exif_session::{Cataloguing, Session, Stop, absolute_of};
-use std::alloc::AllocError;
-use std::collections::BTreeSet;
 use std::io;
 
 /// The pictures of a run.
@@ -34,78 +25,27 @@ pub struct Gathered<'s, 'r, 'a, 'd, 'c, W, E> {
     pub session: &'s mut Session<'r, 'a, W, E>,
     pub cataloguing: &'d Cataloguing<'c>,
     pub has_conditions: bool,
-    /// The path of the picture that was given last, as it was named or found.
-    pub shown: String,
-    /// The path of its row.
-    pub path: String,
-    /// The paths of all that were given.
-    pub seen: BTreeSet<String>,
-    pub stamp: FileStamp,
-    /// Whether it was found in a folder, and was not looked at.
-    pub is_unseen: bool,
-    /// How many faults were skipped in it.
-    pub faults: usize,
-    /// What became of it, where there is one.
-    pub outcome: Option<Outcome>,
+    /// The picture that was given last.
+    pub last: LastPicture,
     /// The names that could not be followed.
     pub failed: Vec<String>,
-}
-
-// What is done with what a run gives next.
-#[derive(Drop)]
-enum NextStep {
-    // it may be a picture, and whether its file is not looked at before
-    Begin(String, bool),
-    // it goes with the pictures beside it, and is not read
-    Skip(String, NotRead),
-    // it is refused: standard input
-    RefuseInput,
-    // it is refused: a name that can't be followed
-    Fail(String, io::Error),
-}
-
-// What is done with what a run gives next.
-fn step_of(next: Next, has_conditions: bool) -> NextStep
-    ensures { result ≡ step_of next has_conditions }
-{
-    match next {
-        Next::Named(path) => NextStep::Begin(path, false),
-        Next::Found(path) => NextStep::Begin(path, !has_conditions),
-        Next::Beside(path, why) => NextStep::Skip(path, why),
-        Next::Input => NextStep::RefuseInput,
-        Next::Failed(path, cause) => NextStep::Fail(path, cause),
-    }
-}
-
-// Adds a path, and answers whether it is new.
-fn add_path(seen: &mut BTreeSet<String>, path: &String) -> Result<bool, AllocError>
-    ensures new { IfOk result (λ is_new.
-        is_new ≡ not (contains_text seen.old (string_bytes path.now))) }
-    ensures seen { OnOk result ((q : List ℕ) → contains_text seen.new q
-        ≡ (if bytes_eq (string_bytes path.now) q then true else contains_text seen.old q)) }
-{
-    if seen.contains(path.as_str()) {
-        return Ok(false);
-    }
-    seen.insert(path.clone()?)?;
-    Ok(true)
 }
 
 impl<W: Sink, E: Sink> Gathered<'_, '_, '_, '_, '_, W, E> {
     // Counts the picture that was given last, once.
     fn end_picture(&mut self)
         ensures counted { self.new.session.now.pending ≡ with_counts
-            (counted_last self.old.outcome self.old.session.now.pending.counts)
+            (counted_last self.old.last.outcome self.old.session.now.pending.counts)
             self.old.session.now.pending }
-        ensures outcome { self.new.outcome ≡ None }
+        ensures outcome { self.new.last.outcome ≡ None }
         ensures same { self.new.session.ghost_name ≡ self.old.session.ghost_name }
     {
-        if let Some(outcome) = self.outcome {
+        if let Some(outcome) = self.last.outcome {
             self.session.count(outcome);
             let left = self.session.pending.len();
             self.session.console.step(left);
         }
-        self.outcome = None;
+        self.last.outcome = None;
     }
 
     // Reports a name that leads to no picture, and counts it.
@@ -158,31 +98,18 @@ impl<W: Sink, E: Sink> Gathered<'_, '_, '_, '_, '_, W, E> {
     // Begins with a picture. One that was there before, by whatever path, is not given again.
     fn begin_picture(&mut self, shown: String, is_unseen: bool) -> Result<Option<Found>, Stop>
         ensures stamp { IfOk result (λ found. IfSome found
-            (λ found. found.stamp ≡ known_stamp self.new.stamp)) }
+            (λ found. found.stamp ≡ known_stamp self.new.last.stamp)) }
         ensures begun { IfOk result (λ found. IfSome found (λ found.
-            (self.new.outcome ≡ Some Done) × (self.new.faults ≡ 0))) }
+            (self.new.last.outcome ≡ Some Done) × (self.new.last.faults ≡ 0))) }
         ensures unseen { IfOk result (λ found. IfSome found
-            (λ found. self.new.is_unseen ≡ is_unseen)) }
+            (λ found. self.new.last.is_unseen ≡ is_unseen)) }
         ensures new { IfOk result (λ found. IfSome found (λ found.
-            contains_text self.old.seen (string_bytes self.new.path) ≡ false)) }
+            contains_text self.old.last.seen (string_bytes self.new.last.path) ≡ false)) }
         ensures session { self.new.session ≡ self.old.session }
     {
         let rt = self.session.rt;
         let path = absolute_of(rt, shown.as_str())?;
-        if !add_path(&mut self.seen, &path)? {
-            return Ok(None);
-        }
-        self.stamp = stamp_of(rt, path.as_str());
-        self.is_unseen = is_unseen;
-        self.faults = 0;
-        self.outcome = Some(Outcome::Done);
-        let found = Found {
-            path: text_of(rt.alloc(), path.as_bytes())?,
-            stamp: known_stamp(self.stamp),
-        };
-        self.path = path;
-        self.shown = shown;
-        Ok(Some(found))
+        Ok(self.last.begin(rt, path, shown, is_unseen)?)
     }
 
     // Does a step. It answers the picture that it begins with, if it is one that was not given
@@ -192,10 +119,10 @@ impl<W: Sink, E: Sink> Gathered<'_, '_, '_, '_, '_, W, E> {
             (counted_step step self.old.session.now.pending.counts)
             self.old.session.now.pending) }
         ensures begun { IfOk result (λ found. IfSome found (λ found.
-            (unseen_in step ≡ Some self.new.is_unseen) × (self.new.outcome ≡ Some Done)
-            × (self.new.faults ≡ 0) × (found.stamp ≡ known_stamp self.new.stamp))) }
+            (unseen_in step ≡ Some self.new.last.is_unseen) × (self.new.last.outcome ≡ Some Done)
+            × (self.new.last.faults ≡ 0) × (found.stamp ≡ known_stamp self.new.last.stamp))) }
         ensures new { IfOk result (λ found. IfSome found (λ found.
-            contains_text self.old.seen (string_bytes self.new.path) ≡ false)) }
+            contains_text self.old.last.seen (string_bytes self.new.last.path) ≡ false)) }
         ensures same { self.new.session.ghost_name ≡ self.old.session.ghost_name }
     {
         match step {
@@ -215,8 +142,8 @@ impl<W: Sink, E: Sink> Gathered<'_, '_, '_, '_, '_, W, E> {
         ensures ended { IfOk result (λ found. found ≡ None
             → length self.new.session.now.pending.waiting.items ≡ 0) }
         ensures begun { IfOk result (λ found. IfSome found (λ found.
-            (self.new.outcome ≡ Some Done) × (self.new.faults ≡ 0)
-            × (found.stamp ≡ known_stamp self.new.stamp))) }
+            (self.new.last.outcome ≡ Some Done) × (self.new.last.faults ≡ 0)
+            × (found.stamp ≡ known_stamp self.new.last.stamp))) }
         ensures same { self.new.session.ghost_name ≡ self.old.session.ghost_name }
     {
         'files: for _ in 0..u64::MAX {
@@ -233,13 +160,13 @@ impl<W: Sink, E: Sink> Gathered<'_, '_, '_, '_, '_, W, E> {
     // Whether the file that was given last is a picture, by its first bytes where they were not
     // looked at; one that is none is skipped.
     fn is_picture(&mut self) -> Result<bool, Stop>
-        ensures seen { self.old.is_unseen ≡ false → IfOk result (λ is. is ≡ true) }
+        ensures seen { self.old.last.is_unseen ≡ false → IfOk result (λ is. is ≡ true) }
         ensures same { self.new.session.ghost_name ≡ self.old.session.ghost_name }
     {
-        if !self.is_unseen {
+        if !self.last.is_unseen {
             return Ok(true);
         }
-        let path = self.shown.clone()?;
+        let path = self.last.shown.clone()?;
         match self.session.chosen(Next::Found(path))? {
             Some(Next::Beside(path, why)) => {
                 let found = decisions::Found::NotRead(why);
@@ -249,72 +176,6 @@ impl<W: Sink, E: Sink> Gathered<'_, '_, '_, '_, '_, W, E> {
             Some(_) => Ok(true),
             None => Ok(false),
         }
-    }
-
-    // The row of the picture by its Exif data, if it has some.
-    fn row_of(
-        &self,
-        format: Option<PictureFormat>,
-        exif: Option<&Exif>,
-        hash: Option<&str>,
-    ) -> Result<Vec<SqlValue>, AllocError>
-        ensures { IfOk result (λ row. map stored row.items ≡ row_for (string_bytes self.now.path)
-            self.now.stamp (option_map (λ t. t.now) hash.entry) format
-            (option_map (λ e. e.now.fields) exif.entry)) }
-    {
-        let alloc = self.session.rt.alloc();
-        row_for(alloc, self.path.as_bytes(), self.stamp, hash, format, exif)
-    }
-
-    // Reads the picture, and answers its row.
-    fn read_row(
-        &mut self,
-        options: Options,
-        input: Input,
-        hash: Option<&str>,
-    ) -> Result<Vec<SqlValue>, Error>
-        ensures row { IfOk result (λ row. IsRowOf (string_bytes self.old.path) self.old.stamp
-            (option_map (λ t. t.now) hash.entry) options (held input) self.new.faults
-            (map stored row.items)) }
-        ensures same { self.new.session.ghost_name ≡ self.old.session.ghost_name }
-    {
-        let alloc = self.session.rt.alloc();
-        let Picture { format, answer } = read(alloc, options, input)?;
-        let (exif, faults) = contents_of(answer)?;
-        self.faults = faults;
-        Ok(self.row_of(format, exif.as_ref(), hash)?)
-    }
-
-    // The row of a picture of these bytes, with their hash.
-    fn row_with_hash(&mut self, options: Options, bytes: Vec<u8>) -> Result<Vec<SqlValue>, Error>
-        ensures row { IfOk result (λ row. IsRowOf (string_bytes self.old.path) self.old.stamp
-            (Some (hex_text (sha256 bytes.items))) options (Some bytes.items) self.new.faults
-            (map stored row.items)) }
-        ensures same { self.new.session.ghost_name ≡ self.old.session.ghost_name }
-    {
-        let hash = hash_of(self.session.rt.alloc(), bytes.as_slice())?;
-        self.read_row(options, Input::Bytes(bytes), Some(hash.as_str()))
-    }
-
-    // The row of the picture, with the hash of the bytes that are read where it is asked for.
-    fn hashed_row(&mut self) -> Result<Vec<SqlValue>, Error>
-        ensures hashed { self.old.cataloguing.now.hash ≡ true → IfOk result (λ row.
-            (options : _) × (bytes : List ℕ) × IsRowOf (string_bytes self.old.path)
-            self.old.stamp (Some (hex_text (sha256 bytes))) options (Some bytes)
-            self.new.faults (map stored row.items)) }
-        ensures plain { self.old.cataloguing.now.hash ≡ false → IfOk result (λ row.
-            (options : _) × (bytes : Option (List ℕ)) × IsRowOf (string_bytes self.old.path)
-            self.old.stamp None options bytes self.new.faults (map stored row.items)) }
-        ensures same { self.new.session.ghost_name ≡ self.old.session.ghost_name }
-    {
-        let rt = self.session.rt;
-        let options = self.cataloguing.reading.options();
-        if self.cataloguing.hash {
-            let bytes = read_file(rt, self.path.as_str())?;
-            return self.row_with_hash(options, bytes);
-        }
-        let input = open(rt, self.path.as_str())?;
-        self.read_row(options, input, None)
     }
 }
 
@@ -331,8 +192,8 @@ impl<W: Sink, E: Sink> Pictures for Gathered<'_, '_, '_, '_, '_, W, E> {
         ensures ended { IfOk result (λ found. found ≡ None
             → length self.new.session.now.pending.waiting.items ≡ 0) }
         ensures begun { IfOk result (λ found. IfSome found (λ found.
-            (self.new.outcome ≡ Some Done) × (self.new.faults ≡ 0)
-            × (found.stamp ≡ known_stamp self.new.stamp))) }
+            (self.new.last.outcome ≡ Some Done) × (self.new.last.faults ≡ 0)
+            × (found.stamp ≡ known_stamp self.new.last.stamp))) }
         ensures same { self.new.session.ghost_name ≡ self.old.session.ghost_name }
     {
         self.end_picture();
@@ -346,22 +207,29 @@ impl<W: Sink, E: Sink> Pictures for Gathered<'_, '_, '_, '_, '_, W, E> {
     }
 
     fn row(&mut self) -> Result<FileRow, Stop>
-        ensures ends { IfOk result (λ row. self.new.outcome ≡ outcome_by row self.new.faults) }
+        ensures ends { IfOk result
+            (λ row. self.new.last.outcome ≡ outcome_by row self.new.last.faults) }
         ensures same { self.new.session.ghost_name ≡ self.old.session.ghost_name }
     {
         if !self.is_picture()? {
-            self.outcome = None;
+            self.last.outcome = None;
             return Ok(FileRow::NoPicture);
         }
-        match self.hashed_row() {
+        let options = self.cataloguing.reading.options();
+        let row = self
+            .last
+            .row(self.session.rt, options, self.cataloguing.hash);
+        match row {
             Ok(values) => {
-                let outcome = self.session.skip_faults(self.shown.as_str(), self.faults)?;
-                self.outcome = Some(outcome);
+                let outcome = self
+                    .session
+                    .skip_faults(self.last.shown.as_str(), self.last.faults)?;
+                self.last.outcome = Some(outcome);
                 Ok(FileRow::Values(values))
             }
             Err(Error::OutOfMemory) => Err(Stop::OutOfMemory),
             Err(error) => {
-                self.outcome = Some(self.session.refuse(self.shown.as_str(), &error)?);
+                self.last.outcome = Some(self.session.refuse(self.last.shown.as_str(), &error)?);
                 Ok(FileRow::Unreadable)
             }
         }

@@ -4,11 +4,10 @@
 
 mod catalog;
 mod gathering;
-mod page;
+mod paging;
 mod query;
-mod reports;
-mod rows;
+mod refusals;
 
 pub use catalog::run_catalog;
-pub use page::write_page;
+pub use paging::write_page;
 pub use query::answer_query;

@@ -3,7 +3,7 @@
 ghost use Rattle.std.specs.Prelude.{IfOk};
 ghost use Rattle.exif_session.specs.Statuses.{IsStatus};
 
-use crate::reports::query_refusal;
+use crate::refusals::query_refusal;
 use exif::Sink;
 use exif_base::send_all;
 use exif_catalog_file::{Lines, query};

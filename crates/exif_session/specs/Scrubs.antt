@@ -19,21 +19,6 @@ option_name StripColor = codes "strip-color"
 option_name LocationsOnly = codes "locations-only"
 option_name ForceBlank = codes "force-blank"
 
-abbrev pub no_options : ScrubOptions
-no_options = record {
-  keep_orientation = false;
-  strip_color = false;
-  locations_only = false;
-  force_blank = false;
-}
-
--- options and another one
-abbrev pub added : ScrubOption → ScrubOptions → ScrubOptions
-added KeepOrientation given = record given { keep_orientation = true }
-added StripColor given = record given { strip_color = true }
-added LocationsOnly given = record given { locations_only = true }
-added ForceBlank given = record given { force_blank = true }
-
 -- what becomes of XMP and IPTC that can't be read
 abbrev pub unread_by : Bool → Unread
 unread_by true = unread.Blank

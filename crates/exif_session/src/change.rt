@@ -1,8 +1,8 @@
 //! What is done to one file, in memory.
 
-ghost use Rattle.std.specs.Prelude.{◌≡◌, IfOk, IfErr};
+ghost use Rattle.std.specs.Prelude.{◌≡◌, IfOk};
 ghost use Rattle.exif_change.specs.Changed.{change_of};
-ghost use Rattle.exif_change.specs.Refusals.{Answers, Fails};
+ghost use Rattle.exif_change.specs.Refusals.{Answers};
 ghost use Rattle.exif_session.specs.Answers.{IsAnswerOf, answer_of, notes_of, undone_in};
 
 use crate::request::Change;

@@ -1,7 +1,7 @@
 //! What `scrub` removes, by its options.
 
 ghost use Rattle.std.specs.Prelude.{◌≡◌};
-ghost use Rattle.exif_session.specs.Scrubs.{added, color_by, no_options, option_name, removed_by, scrub_for};
+ghost use Rattle.exif_session.specs.Scrubs.{color_by, option_name, removed_by, scrub_for};
 
 use crate::request::Change;
 use exif_change::{Color, Removed, Unread};
@@ -20,14 +20,6 @@ pub enum ScrubOption {
 }
 
 impl ScrubOption {
-    /// All of them.
-    pub const ALL: [ScrubOption; 4] = [
-        ScrubOption::KeepOrientation,
-        ScrubOption::StripColor,
-        ScrubOption::LocationsOnly,
-        ScrubOption::ForceBlank,
-    ];
-
     /// Its long name on a command line, without the dashes.
     pub fn name(self) -> &'static str
         ensures { result.now ≡ option_name self }
@@ -55,32 +47,6 @@ pub struct ScrubOptions {
 }
 
 impl ScrubOptions {
-    /// None is given.
-    pub fn new() -> ScrubOptions
-        ensures { result ≡ no_options }
-    {
-        ScrubOptions {
-            keep_orientation: false,
-            strip_color: false,
-            locations_only: false,
-            force_blank: false,
-        }
-    }
-
-    /// These and another one.
-    pub fn with(self, option: ScrubOption) -> ScrubOptions
-        ensures { result ≡ added option self }
-    {
-        let mut all = self;
-        match option {
-            ScrubOption::KeepOrientation => all.keep_orientation = true,
-            ScrubOption::StripColor => all.strip_color = true,
-            ScrubOption::LocationsOnly => all.locations_only = true,
-            ScrubOption::ForceBlank => all.force_blank = true,
-        }
-        all
-    }
-
     // What is removed.
     fn removed(self) -> Removed
         ensures { result ≡ removed_by self }

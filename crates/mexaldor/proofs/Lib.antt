@@ -1,3 +1,1 @@
-mod GivenLemmas
 mod LineLemmas
-mod RequestLemmas

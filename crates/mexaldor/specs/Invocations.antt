@@ -6,28 +6,11 @@ use Rattle.clap.specs.Matches.{found_of, subcommand_name_of}
 use Rattle.clap.specs.declared.parser.matches.ArgMatches.{ArgMatches}
 use Rattle.clap.specs.Simple.{subcommand_rows_of}
 use Rattle.clap.specs.Walk.{rows_of}
-use Rattle.mexaldor.specs.Changes.{copy_asked, scrub_asked, set_asked, shift_asked}
-use Rattle.mexaldor.specs.Given.{flag_in, text_in, text_or_empty}
-use Rattle.mexaldor.specs.Jobs.{catalog_asked, check_asked, geotag_asked, json_asked, rename_asked, show_asked, table_asked, thumbnail_asked, touch_asked}
-use Rattle.mexaldor.specs.Views.{TheRequest, request_seen}
+use Rattle.exif_arguments.specs.Asked.{request_of}
+use Rattle.exif_arguments.specs.Given.{flag_in, text_in, text_or_empty}
+use Rattle.exif_arguments.specs.Views.{TheRequest, request_seen}
 use Rattle.mexaldor.specs.declared.invocation.Invocation.{Invocation}
 use Rattle.mexaldor.specs.declared.invocation.Invocation.TheVariants.{Tags, Run, Query, Page}
-
--- the request of a subcommand of this name
-abbrev pub request_of : List ℕ → ArgMatches → Result TheRequest (List ℕ)
-request_of name found =
-    if bytes_eq name (codes "json") then json_asked found else
-    if bytes_eq name (codes "table") then table_asked found else
-    if bytes_eq name (codes "check") then check_asked found else
-    if bytes_eq name (codes "scrub") then scrub_asked found else
-    if bytes_eq name (codes "set") then set_asked found else
-    if bytes_eq name (codes "shift") then shift_asked found else
-    if bytes_eq name (codes "copy") then copy_asked found else
-    if bytes_eq name (codes "rename") then rename_asked found else
-    if bytes_eq name (codes "geotag") then geotag_asked found else
-    if bytes_eq name (codes "touch") then touch_asked found else
-    if bytes_eq name (codes "thumbnail") then thumbnail_asked found else
-    if bytes_eq name (codes "catalog") then catalog_asked found else show_asked found
 
 -- the page of a catalogue, and where it is written
 pub record ThePage : Type 0 where

@@ -1,11 +1,3 @@
-pub mod Changes
-pub mod Choices
 pub mod Endings
-pub mod Given
 pub mod Invocations
-pub mod Jobs
 pub mod Line
-pub mod Requests
-pub mod Subcommands
-pub mod Unknown
-pub mod Views

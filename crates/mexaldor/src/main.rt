@@ -7,21 +7,14 @@ ghost use Rattle.clap.specs.declared.error.kind.ErrorKind.TheVariants.{DisplayHe
 ghost use Rattle.exif_session.specs.Statuses.{IsStatus};
 ghost use Rattle.mexaldor.specs.Endings.{end_status, stop_status};
 
-mod arguments;
-mod changes;
 mod ending;
-mod given;
 mod invocation;
-mod jobs;
 mod line;
-mod options;
-mod selection;
-mod tags;
 
-use arguments::command;
 use clap::Error;
 use ending::{TaskRun, is_closed, run_for, shown_status, shows_progress};
 use exif::Counted;
+use exif_arguments::command;
 use exif_catalog_commands::{answer_query, run_catalog, write_page};
 use exif_commands::run;
 use exif_decisions::write_tags;

@@ -2,18 +2,18 @@
 
 mod picture;
 
-use exif::{DateTime, Error, Exif};
-use exif_examples::changing::{
+use crate::examples::changing::{
     erase_location, set_orientation, without_location, without_metadata,
 };
-use exif_examples::dates::date_taken;
-use exif_examples::locations::location;
-use exif_examples::reading::{
+use crate::examples::dates::date_taken;
+use crate::examples::locations::location;
+use crate::examples::reading::{
     field_lines, orientation, print_orientation, read_damaged, read_fields, read_from_stranger,
     read_picture, size, thumbnail,
 };
-use exif_examples::values::{artist, resolution_unit, width};
-use exif_examples::writing::{new_exif, written_again};
+use crate::examples::values::{artist, resolution_unit, width};
+use crate::examples::writing::{new_exif, written_again};
+use exif::{DateTime, Error, Exif};
 use exif_test_support::answers::{are_bytes, is_text, shown};
 use exif_test_support::files;
 use picture::PICTURE;

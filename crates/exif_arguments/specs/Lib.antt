@@ -1,0 +1,9 @@
+pub mod Asked
+pub mod Changes
+pub mod Choices
+pub mod Given
+pub mod Jobs
+pub mod Requests
+pub mod Subcommands
+pub mod Unknown
+pub mod Views

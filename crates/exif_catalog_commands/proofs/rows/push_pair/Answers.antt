@@ -1,7 +1,0 @@
-use Rattle.std.proofs.Common.{arith}
-use Rattle.std.proofs.lemmas.Grind.{common_steps}
-use Rattle.std.proofs.lemmas.Fmt.{hex_byte}
-use Rattle.exif_catalog_commands.proofs.rows.push_pair.Goals as goal
-
-pub returns : goal.returns
-returns c = grind (arith, common_steps, hex_byte)

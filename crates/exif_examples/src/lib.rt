@@ -1,9 +1,0 @@
-//! Common tasks, each in a few lines over the library: proved, tested, and quoted by the guides.
-#![tactic(auto)]
-
-pub mod changing;
-pub mod dates;
-pub mod locations;
-pub mod reading;
-pub mod values;
-pub mod writing;

@@ -1,9 +1,0 @@
-use Rattle.std.proofs.Common.{◌≡◌, ◌++◌, drop}
-use Rattle.mexaldor.specs.Changes.{files_among}
-use Rattle.mexaldor.specs.Given.{texts}
-use Rattle.mexaldor.proofs.changes.files_among.Given as goal
-
--- the files so far are before those among the words that are left
-abbrev pub invariant-loop-word : goal.invariant-loop-word
-invariant-loop-word l =
-    files_among (texts l.words) ≡ texts l.files.items ++ files_among (texts (drop l.word-index l.words))

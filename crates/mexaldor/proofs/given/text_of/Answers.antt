@@ -1,8 +1,0 @@
-use Rattle.std.proofs.Common.{◌∙◌}
-use Rattle.mexaldor.specs.Given.{text_in}
-use Rattle.mexaldor.proofs.RequestLemmas.{name_if-map}
-use Rattle.mexaldor.proofs.given.text_of.Goals as goal
-
-pub returns : goal.returns
-unfolding text_in
-returns c = name_if-map c.get_str.result ∙ c.get_str.ensures
