@@ -12,8 +12,8 @@ pub fn scrubbing_twice_is_once()
 {}
 
 /// A TIFF file without its metadata has only tags that describe the picture, in all its
-/// directories, and no metadata in their JPEG streams. It is zero but for these directories, the
-/// values of their tags, and the picture's data.
+/// directories, each once and with values of its type and count, and no metadata in their JPEG
+/// streams. It is zero but for these directories, the values of their tags, and the picture's data.
 pub fn only_the_picture_is_left()
     ensures tags { (keeps_orientation : Bool) (file new : List ℕ)
         → scrubbed keeps_orientation file ≡ Ok new
