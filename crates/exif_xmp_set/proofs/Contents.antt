@@ -9,26 +9,26 @@ use Rattle.exif_xmp.specs.Properties.{PropertyView}
 use Rattle.exif_xmp_set.specs.Contents.{Content, content_of, is_replaced, replaced_from, same_content, same_form, same_language, with_text_if}
 use Rattle.exif_xmp_set.specs.Found.{is_named}
 
-both : (a b : Bool) → (a && b) ≡ true → (a ≡ true) × (b ≡ true)
+pub both : (a b : Bool) → (a && b) ≡ true → (a ≡ true) × (b ≡ true)
 both true b e = (refl, e)
 both false b e = absurd cc
 
-bytes_same : (a b : List ℕ) → bytes_eq a b ≡ true → a ≡ b
+pub bytes_same : (a b : List ℕ) → bytes_eq a b ≡ true → a ≡ b
 bytes_same a b e = (bytes_eq-Decides a b).0 e
 
-language_same : (a b : Option (List ℕ)) → same_language a b ≡ true → a ≡ b
+pub language_same : (a b : Option (List ℕ)) → same_language a b ≡ true → a ≡ b
 language_same None None e = refl
 language_same None (Some b) e = absurd cc
 language_same (Some a) None e = absurd cc
 language_same (Some a) (Some b) e = ap (λ (x : List ℕ). Some x) (bytes_same a b e)
 
-form_same : (a b : Form) → same_form a b ≡ true → a ≡ b
+pub form_same : (a b : Form) → same_form a b ≡ true → a ≡ b
 form_same Text Text e = refl
 form_same Text Unread e = absurd cc
 form_same Unread Text e = absurd cc
 form_same Unread Unread e = refl
 
-content : List ℕ → List ℕ → List ℕ → Option (List ℕ) → Form → Content
+unfoldable pub content : List ℕ → List ℕ → List ℕ → Option (List ℕ) → Form → Content
 content n p t l f = record { namespace = n; path = p; text = t; language = l; form = f }
 
 content_same : (p q : PropertyView) → same_content p q ≡ true → content_of p ≡ content_of q

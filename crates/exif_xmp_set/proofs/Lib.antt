@@ -1,2 +1,5 @@
+pub mod Additions
 pub mod Contents
+pub mod OneMore
+pub mod Places
 pub mod Settings

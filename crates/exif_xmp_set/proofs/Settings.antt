@@ -24,34 +24,34 @@ use Rattle.exif_xmp_set.proofs.Contents.{says_replaced}
 -- ---- what was done
 
 -- steps that answer: the first one does
-record Bound (A B E : Type 0) (r : Result A E) (f : A → Result B E) (y : B) : Type 0 where
-  value : A
-  is : r ≡ Ok value
-  gives : f value ≡ Ok y
+pub record Bound (A B E : Type 0) (r : Result A E) (f : A → Result B E) (y : B) : Type 0 where
+  pub value : A
+  pub is : r ≡ Ok value
+  pub gives : f value ≡ Ok y
 
-bound : {A B E : Type 0} (r : Result A E) (f : A → Result B E) (y : B) → (r >>= f) ≡ Ok y → Bound A B E r f y
+pub bound : {A B E : Type 0} (r : Result A E) (f : A → Result B E) (y : B) → (r >>= f) ≡ Ok y → Bound A B E r f y
 bound (Ok x) f y e = record { value = x; is = refl; gives = e }
 bound (Err x) f y e = absurd cc
 
-read_is : (r : Result (List PropertyView) Refusal) (x : List PropertyView) → of_reader r ≡ Ok x → r ≡ Ok x
+pub read_is : (r : Result (List PropertyView) Refusal) (x : List PropertyView) → of_reader r ≡ Ok x → r ≡ Ok x
 read_is (Ok y) x e = cc
 read_is (Err r) x e = absurd cc
 
-valid_is : (o : Option ℕ) (new y : List ℕ) → if_valid o new ≡ Ok y → new ≡ y
+pub valid_is : (o : Option ℕ) (new y : List ℕ) → if_valid o new ≡ Ok y → new ≡ y
 valid_is None new y e = cc
 valid_is (Some o) new y e = absurd cc
 
-record Again (test : List PropertyView → Bool) (new y : List ℕ) (r : Result (List PropertyView) Refusal) : Type 0 where
-  now : List PropertyView
-  is : r ≡ Ok now
-  passes : test now ≡ true
-  same : new ≡ y
+pub record Again (test : List PropertyView → Bool) (new y : List ℕ) (r : Result (List PropertyView) Refusal) : Type 0 where
+  pub now : List PropertyView
+  pub is : r ≡ Ok now
+  pub passes : test now ≡ true
+  pub same : new ≡ y
 
 passed : (b : Bool) (new y : List ℕ) (reason : Reason) → (let r : Result (List ℕ) Reason = cond b (Ok new) (Err reason) in r ≡ Ok y) → (b ≡ true) × (new ≡ y)
 passed true new y reason e = (refl, ok_is e)
 passed false new y reason e = absurd cc
 
-again : (test : List PropertyView → Bool) (new y : List ℕ) (r : Result (List PropertyView) Refusal) → if_read test new r ≡ Ok y → Again test new y r
+pub again : (test : List PropertyView → Bool) (new y : List ℕ) (r : Result (List PropertyView) Refusal) → if_read test new r ≡ Ok y → Again test new y r
 again test new y (Ok now) e =
     let p = passed (test now) new y _ e in
     record { now = now; is = refl; passes = p.0; same = p.1 }

@@ -1,5 +1,5 @@
 -- What properties say, wherever a packet has them.
-use Rattle.std.specs.Prelude.{ℕ, ◌&&◌, ◌||◌, Bool, true, false, not, if◌then◌else◌, List, [], ◌∷◌, map, Option, Some, None, Result, Ok, Err}
+use Rattle.std.specs.Prelude.{ℕ, ◌&&◌, ◌||◌, nat_lt, Bool, true, false, not, if◌then◌else◌, List, [], ◌∷◌, ◌++◌, length, take, drop, map, Option, Some, None, Result, Ok, Err}
 use Rattle.std.specs.Str.{bytes_eq}
 use Rattle.exif_xmp.specs.declared.fault.Refusal.{Refusal}
 use Rattle.exif_xmp.specs.declared.property.Form.{Form}
@@ -46,6 +46,10 @@ abbrev pub replaced : List ℕ → List ℕ → List ℕ → Result (List Proper
 replaced namespace path text (Ok ps) = Ok (replaced_from false namespace path text ps)
 replaced namespace path text (Err r) = Err r
 
+-- a property that is one more, without an offset
+abbrev pub with_more : ℕ → Content → List PropertyView → List Content
+with_more at given ps = map content_of (take at ps) ++ (given ∷ map content_of (drop at ps))
+
 -- the same as tests
 abbrev pub same_language : Option (List ℕ) → Option (List ℕ) → Bool
 same_language None None = true
@@ -73,4 +77,27 @@ is_replaced is_done namespace path text (p ∷ ps) (q ∷ qs) =
     let is_set = not is_done && is_named p namespace path in
     if same_content (with_text_if is_set text p) q
     then is_replaced (is_done || is_set) namespace path text ps qs
+    else false
+
+-- properties say what others say
+abbrev pub all_same : List PropertyView → List PropertyView → Bool
+all_same old new = is_replaced true [] [] [] old new
+
+-- a property says this
+abbrev pub is_given : Content → PropertyView → Bool
+is_given given q =
+    (bytes_eq given.namespace q.namespace && bytes_eq given.path q.path)
+    && bytes_eq given.text q.text
+    && (same_language given.language q.language && same_form given.form q.form)
+
+-- properties are one that says this, and others that say what others say
+abbrev pub is_followed : Content → List PropertyView → List PropertyView → Bool
+is_followed given old [] = false
+is_followed given old (q ∷ qs) = if is_given given q then all_same old qs else false
+
+-- properties say what others say, and one more in front of the one of an index
+unfoldable pub is_inserted : ℕ → Content → List PropertyView → List PropertyView → Bool
+is_inserted at given old new =
+    if nat_lt (length old) at || nat_lt (length new) at then false else
+    if all_same (take at old) (take at new) then is_followed given (drop at old) (drop at new)
     else false

@@ -1,10 +1,12 @@
 pub mod Contents
 pub mod Contexts
 pub mod Escaping
-pub mod Examples
 pub mod FaultTexts
 pub mod Found
+pub mod Items
 pub mod Padding
-pub mod Promises
 pub mod Refusals
 pub mod Setting
+pub mod Added
+pub mod Promises
+pub mod Examples

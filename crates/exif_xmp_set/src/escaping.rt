@@ -47,9 +47,9 @@ fn push_escaped_byte(out: &mut Vec<u8>, context: Context, byte: u8) -> Result<()
     }
 }
 
-// Appends a text.
+/// Appends a text.
 #[tactic(auto, unfolding(crate::specs::Escaping::escaped))]
-fn push_escaped(out: &mut Vec<u8>, context: Context, text: &[u8]) -> Result<(), AllocError>
+pub fn push_escaped(out: &mut Vec<u8>, context: Context, text: &[u8]) -> Result<(), AllocError>
     ensures { OnOk result (out.new.items ≡ out.old.items ++ escaped context text.now) }
 {
     for byte in text {

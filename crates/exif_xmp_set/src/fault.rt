@@ -19,6 +19,10 @@ pub enum Reason {
     NoProperty,
     /// The value of the property is not text, but [`Form::Unread`](exif_xmp::Form::Unread).
     Unread,
+    /// The packet has a property of this namespace and path, or one within it.
+    Present,
+    /// The packet has no end tag of `rdf:RDF`, before which a property could go.
+    NoPlace,
     /// At this offset the text has bytes that are no character of XML in UTF-8.
     InvalidText(usize),
     /// The new packet would not be read as the old one with the text replaced.
@@ -72,6 +76,8 @@ impl fmt::Display for Reason {
             Reason::Packet(refusal) => refusal.fault.fmt(f),
             Reason::NoProperty => f.write_str("no such property"),
             Reason::Unread => f.write_str("the property is not a text"),
+            Reason::Present => f.write_str("the property is there already"),
+            Reason::NoPlace => f.write_str("the packet has no place for a property"),
             Reason::InvalidText(_) => f.write_str("the text is not valid in XML"),
             Reason::NotReadBack => f.write_str("the text cannot be set in this packet"),
         }

@@ -2,7 +2,7 @@
 
 ghost use Rattle.std.specs.Prelude.{◌≡◌, false, map};
 ghost use Rattle.exif_xmp.specs.Properties.{bytes_view, property_view};
-ghost use Rattle.exif_xmp_set.specs.Contents.{is_replaced, same_content, same_form, same_language, with_text_if};
+ghost use Rattle.exif_xmp_set.specs.Contents.{all_same, is_replaced, same_content, same_form, same_language, with_text_if};
 
 use crate::found::is_named;
 use exif_xmp::{Form, Property};
@@ -55,6 +55,33 @@ fn same_content(old: &Property, new: &Property, is_set: bool, text: &[u8]) -> bo
     names && texts && language
 }
 
+// Whether properties say what others say, but that the first one of a namespace and path has another
+// text, unless it is behind.
+fn replaced_from(
+    is_done: bool,
+    old: &[Property],
+    new: &[Property],
+    namespace: &[u8],
+    path: &[u8],
+    text: &[u8],
+) -> bool
+    ensures { result ≡ is_replaced is_done namespace.now path.now text.now
+        (map property_view old.now) (map property_view new.now) }
+{
+    if old.len() != new.len() {
+        return false;
+    }
+    let mut is_past = is_done;
+    for i in 0..old.len() {
+        let is_set = !is_past && is_named(&old[i], namespace, path);
+        if !same_content(&old[i], &new[i], is_set, text) {
+            return false;
+        }
+        is_past = is_past || is_set;
+    }
+    true
+}
+
 /// Whether properties say what others say, but that the first one of a namespace and path has
 /// another text.
 pub fn is_replaced(
@@ -67,16 +94,12 @@ pub fn is_replaced(
     ensures { result ≡ is_replaced false namespace.now path.now text.now
         (map property_view old.now) (map property_view new.now) }
 {
-    if old.len() != new.len() {
-        return false;
-    }
-    let mut is_done = false;
-    for i in 0..old.len() {
-        let is_set = !is_done && is_named(&old[i], namespace, path);
-        if !same_content(&old[i], &new[i], is_set, text) {
-            return false;
-        }
-        is_done = is_done || is_set;
-    }
-    true
+    replaced_from(false, old, new, namespace, path, text)
+}
+
+/// Whether properties say what others say.
+pub fn all_same(old: &[Property], new: &[Property]) -> bool
+    ensures { result ≡ all_same (map property_view old.now) (map property_view new.now) }
+{
+    replaced_from(true, old, new, b"", b"", b"")
 }

@@ -1,6 +1,9 @@
 //! Packets that exiftool 12.57 wrote, before and after it set a text: `exiftool -o NEW
 //! -xmp-dc:title-x-default='Sea & sand <3' OLD`, and so on.
 
+use crate::adding::{add_item, add_text};
+use crate::fault::{Reason, SetError};
+use crate::items::Array;
 use crate::set::set_text;
 use std::alloc::{AllocError, Global};
 use std::test::Fail;
@@ -63,9 +66,9 @@ fn sidecar(
     joined(alloc, &parts)
 }
 
-// A packet with a label as an attribute.
-fn labelled(alloc: Global, label: &[u8]) -> Result<Vec<u8>, AllocError> {
-    let parts: [&[u8]; 3] = [
+// A packet with a label as an attribute, and more behind that.
+fn labelled_with(alloc: Global, label: &[u8], more: &[u8]) -> Result<Vec<u8>, AllocError> {
+    let parts: [&[u8]; 5] = [
         b"<?xpacket begin='\xef\xbb\xbf' id='W5M0MpCehiHzreSzNTczkc9d'?>
 <x:xmpmeta xmlns:x='adobe:ns:meta/' x:xmptk='Image::ExifTool 12.57'>
 <rdf:RDF xmlns:rdf='http://www.w3.org/1999/02/22-rdf-syntax-ns#'>
@@ -75,11 +78,18 @@ fn labelled(alloc: Global, label: &[u8]) -> Result<Vec<u8>, AllocError> {
   xmp:Label='",
         label,
         b"'/>
-</rdf:RDF>
+",
+        more,
+        b"</rdf:RDF>
 </x:xmpmeta>
 <?xpacket end='w'?>",
     ];
     joined(alloc, &parts)
+}
+
+// A packet with a label alone.
+fn labelled(alloc: Global, label: &[u8]) -> Result<Vec<u8>, AllocError> {
+    labelled_with(alloc, label, b"")
 }
 
 #[test]
@@ -105,5 +115,68 @@ fn attributes_as_exiftool_sets_them(rt: HostRuntime) -> Result<(), Fail> {
     let new = set_text(alloc, &old, XMP, b"xmp:Label", b"It's <b> & c")?;
     let wanted = labelled(alloc, b"It&#39;s &lt;b&gt; &amp; c")?;
     assert_eq!(rt; new.as_slice(), wanted.as_slice());
+    Ok(())
+}
+
+// exiftool 12.57 reads the rating and the creator of these packets.
+#[test]
+fn properties_that_are_added(rt: HostRuntime) -> Result<(), Fail> {
+    let alloc = rt.alloc();
+    let old = labelled(alloc, b"Red")?;
+    let new = add_text(alloc, &old, XMP, b"xmp:Rating", b"5")?;
+    let wanted = labelled_with(
+        alloc,
+        b"Red",
+        b"<rdf:Description xmlns:rdf='http://www.w3.org/1999/02/22-rdf-syntax-ns#' rdf:about='' \
+          xmlns:xmp='http://ns.adobe.com/xap/1.0/' xmp:Rating='5'/>\n",
+    )?;
+    assert_eq!(rt; new.as_slice(), wanted.as_slice());
+    let new = add_item(
+        alloc,
+        &old,
+        DUBLIN_CORE,
+        b"dc:creator",
+        Array::Seq,
+        b"A & B",
+    )?;
+    let wanted = labelled_with(
+        alloc,
+        b"Red",
+        b"<rdf:Description xmlns:rdf='http://www.w3.org/1999/02/22-rdf-syntax-ns#' rdf:about='' \
+          xmlns:dc='http://purl.org/dc/elements/1.1/'><dc:creator><rdf:Seq><rdf:li>A &amp; B</rdf:li>\
+          </rdf:Seq></dc:creator></rdf:Description>\n",
+    )?;
+    assert_eq!(rt; new.as_slice(), wanted.as_slice());
+    Ok(())
+}
+
+#[test]
+fn an_item_behind_the_last_one(rt: HostRuntime) -> Result<(), Fail> {
+    let alloc = rt.alloc();
+    let old = sidecar(alloc, b"Beach", b"two", b"3")?;
+    let new = add_item(
+        alloc,
+        &old,
+        DUBLIN_CORE,
+        b"dc:subject",
+        Array::Bag,
+        b"three",
+    )?;
+    let wanted = sidecar(alloc, b"Beach", b"two</rdf:li><rdf:li>three", b"3")?;
+    assert_eq!(rt; new.as_slice(), wanted.as_slice());
+    Ok(())
+}
+
+#[test]
+fn properties_that_are_not_added(rt: HostRuntime) -> Result<(), Fail> {
+    let alloc = rt.alloc();
+    let old = sidecar(alloc, b"Beach", b"two", b"3")?;
+    let rated = add_text(alloc, &old, XMP, b"xmp:Rating", b"4");
+    assert!(rt; matches!(rated, Err(SetError::Refused(Reason::Present))));
+    let titled = add_text(alloc, &old, DUBLIN_CORE, b"dc:title", b"Sea");
+    assert!(rt; matches!(titled, Err(SetError::Refused(Reason::Present))));
+    let empty = b"<r:RDF xmlns:r='http://www.w3.org/1999/02/22-rdf-syntax-ns#'/>";
+    let placed = add_text(alloc, empty, XMP, b"xmp:Rating", b"4");
+    assert!(rt; matches!(placed, Err(SetError::Refused(Reason::NoPlace))));
     Ok(())
 }
