@@ -60,7 +60,7 @@ impl LastPicture {
         ensures none { (result.outcome ≡ None) × (result.faults ≡ 0)
             × (result.is_unseen ≡ false) }
         ensures paths { (string_bytes result.shown ≡ []) × (string_bytes result.path ≡ []) }
-        ensures seen { (path : List ℕ) → contains_text result.seen path ≡ false }
+        ensures seen { result.seen.keys ≡ [] }
     {
         LastPicture {
             shown: String::new(alloc),
