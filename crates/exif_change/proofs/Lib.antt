@@ -6,3 +6,4 @@ pub mod ReadLemmas
 pub mod Scrubbed
 pub mod Staying
 pub mod Steps
+pub mod TogetherParts

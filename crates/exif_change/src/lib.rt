@@ -19,6 +19,7 @@ mod refusal;
 mod rewriting;
 mod rotation;
 mod scrubbing;
+mod together;
 
 pub use changed::{Changed, Residual};
 pub use exif_privacy::Unread;
@@ -28,3 +29,4 @@ pub use reading::{ENTRY_LIMIT, read};
 pub use refusal::Refusal;
 pub use rewriting::rewritten;
 pub use scrubbing::Removed;
+pub use together::{Together, together_len};

@@ -14,7 +14,7 @@ use crate::output::{OutError, out_of, write_out};
 use crate::request::{Change, Task};
 use crate::session::{Session, Stop};
 use exif::Sink;
-use exif_change::{Refusal, Residual};
+use exif_change::{Refusal, Residual, Together, together_len};
 use exif_decisions::Outcome;
 use exif_inputs::read_file;
 
@@ -70,8 +70,13 @@ fn end_into<W: Sink, E: Sink>(
     if let Err(error) = written {
         return session.refuse(path, &error);
     }
-    for left in left {
-        session.say(path, left)?;
+    let mut rest = left;
+    while !rest.is_empty() {
+        let count = together_len(rest);
+        let more = count - 1;
+        let first = &rest[0];
+        session.say(path, &Together { first, more })?;
+        rest = &rest[count..];
     }
     Ok(Outcome::of_done(left.is_empty()))
 }

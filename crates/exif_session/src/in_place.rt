@@ -19,7 +19,7 @@ use crate::notes::{NoteLine, said_notes};
 use crate::request::Change;
 use crate::session::{Item, Session, Stop};
 use exif::Sink;
-use exif_change::{Note, Refusal, Residual};
+use exif_change::{Note, Refusal, Residual, Together, together_len};
 use exif_decisions::{Counts, Escaped, Outcome};
 use exif_files::{
     Failure, HostFiles, Keeping, Report, Reporter, WriteError, change_all, folder_of,
@@ -252,8 +252,13 @@ struct Messages<'p, 'c, 'r, E> {
 impl<'p, 'c, 'r, E: Sink> Messages<'p, 'c, 'r, E> {
     // Writes what was left undone in a changed file, and its notes.
     fn say_all(&mut self, path: &str, report: &Report<Residual, Note>) {
-        for left in report.left.iter() {
-            self.console.say(path, left);
+        let mut rest = report.left.as_slice();
+        while !rest.is_empty() {
+            let count = together_len(rest);
+            let more = count - 1;
+            let first = &rest[0];
+            self.console.say(path, &Together { first, more });
+            rest = &rest[count..];
         }
         for note in said_notes(self.quiet, report.notes.as_slice()) {
             self.console.say(path, &NoteLine(*note));
