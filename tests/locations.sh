@@ -223,6 +223,16 @@ gives "a folder with a file that may still hold a location" 3 "$mexaldor" scrub 
 says "names it" "many/comment.jpg: still there: comment at offset"
 check "and changes the others" test "$(secrets many/exif.jpg)" = 0
 
+# three comments, one behind the other
+{
+    head -c 2 files/plain.jpg
+    printf '\377\376\0\004ab\377\376\0\004cd\377\376\0\004ef'
+    tail -c +3 files/plain.jpg
+} >comments.jpg
+gives "comments that follow one another may hold a location" 3 "$mexaldor" scrub --locations-only comments.jpg new.comments.jpg
+says "and have one line" "comments.jpg: still there: comment at offset 2, which may hold a location, and 2 more behind it"
+check "alone" test "$(grep -c 'still there' err)" = 1
+
 if has djpeg; then
     djpeg files/all.jpg >old.ppm
     djpeg new.all.jpg >new.ppm
