@@ -78,16 +78,35 @@ pub fn together_len(left: &[Residual]) -> usize
     n
 }
 
+// How many parts follow.
+#[derive(Clone, Copy)]
+struct More(usize);
+
+impl fmt::Display for More {
+    ghost use Rattle.std.specs.Prelude.{Some};
+    ghost use Rattle.exif_change.specs.Together.{more_text};
+
+    ghost output = { λ more. Some (more_text more.0) };
+
+    fn fmt<W: fmt::Write>(&self, f: &mut fmt::Formatter<W>) -> fmt::Result {
+        let more = self.0;
+        if more == 0 {
+            return f.write_str("");
+        }
+        if more == 1 {
+            return f.write_str(", and one more behind it");
+        }
+        write!(f, ", and {more} more behind it")
+    }
+}
+
 impl<'a> fmt::Display for Together<'a> {
     ghost use Rattle.exif_change.specs.Together.{together_text};
 
     ghost output = { together_text };
 
     fn fmt<W: fmt::Write>(&self, f: &mut fmt::Formatter<W>) -> fmt::Result {
-        match self.more {
-            0 => write!(f, "{}", self.first),
-            1 => write!(f, "{}, and one more behind it", self.first),
-            more => write!(f, "{}, and {more} more behind it", self.first),
-        }
+        let more = More(self.more);
+        write!(f, "{}{more}", self.first)
     }
 }
