@@ -1,4 +1,5 @@
 pub mod BigEndian
+pub mod Naming
 pub mod ScanParts
 pub mod Scans
 pub mod TextSteps

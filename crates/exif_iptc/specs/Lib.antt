@@ -3,10 +3,12 @@ pub mod Datasets
 pub mod Examples
 pub mod FaultTexts
 pub mod Forms
+pub mod Named
 pub mod Numbers
 pub mod Promises
 pub mod Readings
 pub mod Refusals
+pub mod Repeats
 pub mod RowViews
 pub mod Rows
 pub mod Texts

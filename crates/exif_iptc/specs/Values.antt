@@ -1,5 +1,6 @@
 -- The values of datasets.
-use Rattle.std.specs.Prelude.{ℕ, nat_lt, if◌then◌else◌, List, length, Option, string_bytes}
+use Rattle.std.specs.Prelude.{ℕ, nat_lt, if◌then◌else◌, List, ◌++◌, codes, length, Option, None, Some, string_bytes}
+use Rattle.std.specs.Fmt.{decimal}
 use Rattle.std.specs.Option.{option_map}
 use Rattle.exif_iptc.specs.declared.charset.Charset.{Charset}
 use Rattle.exif_iptc.specs.declared.dataset.Dataset.{Dataset}
@@ -57,3 +58,11 @@ value_view v = record {
   kind = v.kind;
   content = content_view v.content;
 }
+
+-- the name of a dataset, or its numbers
+abbrev pub named_by : Option (List ℕ) → Dataset → List ℕ
+named_by None d = decimal d.record_number ++ (codes ":" ++ decimal d.number)
+named_by (Some name) d = name
+
+abbrev pub label_of : DatasetValue → List ℕ
+label_of value = named_by value.name value.dataset

@@ -15,6 +15,7 @@ pub mod laws;
 pub mod names;
 mod number;
 pub mod reading;
+mod repeats;
 pub mod text;
 pub mod value;
 
@@ -22,7 +23,8 @@ pub use charset::{Charset, charset_of};
 pub use dataset::{Dataset, Scanned, datasets, scan, value_bytes};
 pub use fault::{Fault, ReadError, Refusal};
 pub use kind::Kind;
-pub use names::{kind_of, name_of};
+pub use names::{DatasetId, dataset_of_name, kind_of, name_of};
 pub use reading::{Reading, read, read_lenient};
+pub use repeats::is_repeatable;
 pub use text::text_of;
-pub use value::{Content, Value, value_of, values_of};
+pub use value::{Content, Value, label_of, value_of, values_of};

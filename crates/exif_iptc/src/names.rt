@@ -4,7 +4,9 @@
 //! 3 (Digital Newsphoto Parameter Record). Each has the name under which exiftool shows it.
 
 ghost use Rattle.std.specs.Prelude.{◌≡◌, map};
+ghost use Rattle.std.specs.List.{find};
 ghost use Rattle.std.specs.Option.{option_map};
+ghost use Rattle.exif_iptc.specs.Named.{dataset_of_name, has_name, named_in, or_else};
 ghost use Rattle.exif_iptc.specs.Rows.{application_rows, envelope_rows, kind_of, name_of, news_photo_rows, row_of, rows_of};
 ghost use Rattle.exif_iptc.specs.RowViews.{row_view};
 
@@ -219,4 +221,58 @@ pub fn kind_of(record_number: u8, number: u8) -> Kind
         Some(row) => row.kind,
         None => Kind::Bytes,
     }
+}
+
+/// A dataset, by the number of its record and its own.
+#[derive(Clone, Copy, Debug, PartialEq, Eq)]
+pub struct DatasetId {
+    /// The number of the record.
+    pub record_number: u8,
+    /// The number of the dataset in its record.
+    pub number: u8,
+}
+
+// The first row of a name.
+fn row_named(rows: &'static [Row], name: &str) -> Option<&'static Row>
+    ensures { option_map (λ row. row_view row.now) result
+        ≡ find (has_name name.now) (map row_view rows.now) }
+{
+    for row in rows {
+        if row.name.eq_ignore_ascii_case(name) {
+            return Some(row);
+        }
+    }
+    None
+}
+
+// The dataset of a name in a record.
+fn named_in(record_number: u8, name: &str) -> Option<DatasetId>
+    ensures { result ≡ named_in record_number name.now }
+{
+    let row = row_named(rows(record_number), name)?;
+    Some(DatasetId {
+        record_number,
+        number: row.number,
+    })
+}
+
+// The first dataset, or else the second.
+fn or_else(first: Option<DatasetId>, second: Option<DatasetId>) -> Option<DatasetId>
+    ensures { result ≡ or_else first second }
+{
+    match first {
+        Some(id) => Some(id),
+        None => second,
+    }
+}
+
+/// The dataset of a name, in letters of any case; `None` where the standard gives none this name.
+/// The names are those of [`name_of`]. A name of several records is that of the first.
+#[tactic(auto, unfolding(crate::specs::Named::dataset_of_name))]
+pub fn dataset_of_name(name: &str) -> Option<DatasetId>
+    ensures { result ≡ dataset_of_name name.now }
+{
+    let last = or_else(named_in(8, name), named_in(9, name));
+    let later = or_else(named_in(3, name), or_else(named_in(7, name), last));
+    or_else(named_in(1, name), or_else(named_in(2, name), later))
 }

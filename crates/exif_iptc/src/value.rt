@@ -1,7 +1,7 @@
 //! The values of datasets.
 
-ghost use Rattle.std.specs.Prelude.{◌≡◌, map, IfOk};
-ghost use Rattle.exif_iptc.specs.Values.{content_of, content_view, value_of, value_view};
+ghost use Rattle.std.specs.Prelude.{◌≡◌, map, string_bytes, IfOk};
+ghost use Rattle.exif_iptc.specs.Values.{content_of, content_view, label_of, value_of, value_view};
 
 use crate::charset::Charset;
 use crate::dataset::{Dataset, value_bytes};
@@ -137,4 +137,22 @@ pub fn values_of(
         values.push(value)?;
     }
     Ok(values)
+}
+
+/// The name of a dataset, or its numbers where the standard gives it none: `Keywords`, `2:234`.
+///
+/// # Errors
+///
+/// Out of memory.
+pub fn label_of(alloc: Global, value: &Value) -> Result<String, AllocError>
+    ensures { IfOk result (λ text. string_bytes text ≡ label_of (value_view value.now)) }
+{
+    match value.name {
+        Some(name) => String::from_str(alloc, name),
+        None => {
+            let record_number = value.dataset.record_number;
+            let number = value.dataset.number;
+            format!(in alloc; "{record_number}:{number}")
+        }
+    }
 }

@@ -1,9 +1,10 @@
 -- Worked packets: a JPEG file with an XMP packet and two portions of the rest of it.
-use Rattle.std.specs.Prelude.{◌≡◌, refl, ℕ, List, [], ◌∷◌, ◌++◌, false, true, codes, replicate, Ok, Err, Some}
+use Rattle.std.specs.Prelude.{◌≡◌, refl, ℕ, List, [], ◌∷◌, ◌++◌, false, true, codes, replicate, Ok, Err, None, Some}
 use Rattle.exif_inventory.specs.JpegPieces.{stream_piece}
 use Rattle.exif_inventory.specs.Walks.{walked}
 use Rattle.exif_types.specs.declared.value.Value.TheVariants as value
 use Rattle.exif_packets.specs.Fields.{value_bytes}
+use Rattle.exif_packets.specs.Heads.{head_by, head_len}
 use Rattle.exif_packets.specs.Packets.{packets}
 use Rattle.exif_packets.specs.Portions.{joined}
 use Rattle.exif_packets.specs.declared.packet.Form.{Form}
@@ -40,6 +41,42 @@ packets_of_a_file : packets file
     ≡ Some (packet Xmp 35 2 ∷ packet XmpPortion 76 43 ∷ packet XmpPortion 158 42 ∷ [])
 unfolding walked stream_piece
 packets_of_a_file = refl
+
+-- it has no scan: its head is all of it, up to the end of the image
+head_of_a_file : head_len file ≡ Some 202
+unfolding head_by stream_piece
+head_of_a_file = refl
+
+-- a comment, and the header of a scan (T.81, B.2.3) with two bytes of the scan behind it
+head_before_a_scan : head_len
+    (255 ∷ 216 ∷ 255 ∷ 254 ∷ 0 ∷ 3 ∷ 1 ∷ 255 ∷ 218 ∷ 0 ∷ 8 ∷ 1 ∷ 1 ∷ 0 ∷ 0 ∷ 63 ∷ 0 ∷ 7 ∷ 8 ∷ [])
+    ≡ Some 17
+unfolding head_by stream_piece
+head_before_a_scan = refl
+
+-- the resources of Photoshop, with two bytes that fill the space before the next marker
+head_behind_resources : head_len
+    (255 ∷ 216 ∷ 255 ∷ 237 ∷ 0 ∷ 28 ∷ codes "Photoshop 3.0\0" ++ codes "8BIM"
+    ++ 4 ∷ 4 ∷ 0 ∷ 0 ∷ 0 ∷ 0 ∷ 0 ∷ 0 ∷ 255 ∷ 255 ∷ 255 ∷ 217 ∷ 1 ∷ 2 ∷ 3 ∷ [])
+    ≡ Some 36
+unfolding head_by stream_piece
+head_behind_resources = refl
+
+-- a segment that goes on behind the bytes, a marker without its length, and no marker
+cut_segment : head_len (255 ∷ 216 ∷ 255 ∷ 254 ∷ 0 ∷ 9 ∷ 1 ∷ []) ≡ None
+unfolding head_by stream_piece
+cut_segment = refl
+
+cut_length : head_len (255 ∷ 216 ∷ 255 ∷ 218 ∷ 0 ∷ []) ≡ None
+unfolding head_by stream_piece
+cut_length = refl
+
+no_marker : head_len (255 ∷ 216 ∷ 1 ∷ 2 ∷ []) ≡ None
+unfolding head_by stream_piece
+no_marker = refl
+
+no_jpeg : head_len (codes "RIFF") ≡ None
+no_jpeg = refl
 
 portions_in_order :
     joined file (packet Xmp 35 2 ∷ packet XmpPortion 76 43 ∷ packet XmpPortion 158 42 ∷ []) id

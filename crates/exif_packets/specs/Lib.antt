@@ -1,5 +1,6 @@
 pub mod Examples
 pub mod Fields
+pub mod Heads
 pub mod Packets
 pub mod PngPackets
 pub mod Portions

@@ -1,3 +1,4 @@
 pub mod Extensions
+pub mod Paths
 pub mod Readings
 pub mod Values

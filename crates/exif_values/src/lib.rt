@@ -2,11 +2,12 @@
 //!
 //! [`read`] reads the packets of a JPEG, WebP, PNG, JPEG XL, HEIF or AVIF file, and [`read_fields`]
 //! those in the values of fields, as TIFF and raw files have them. Both add to [`Values`]; what is
-//! not read is named in it.
+//! not read is named in it. [`paths`] finds properties by their paths.
 #![tactic(auto)]
 
 mod extension;
 mod fault;
+pub mod paths;
 mod reading;
 #[cfg(test)]
 mod tests;
