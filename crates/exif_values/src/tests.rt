@@ -2,6 +2,7 @@
 
 use crate::fault::Cause;
 use crate::reading::read;
+use crate::sorting::{joined, sorting_of};
 use crate::values::Values;
 use exif_iptc::Content;
 use exif_xmp::Fault as XmpFault;
@@ -151,6 +152,37 @@ fn packets_of_exiftool(rt: HostRuntime) -> Result<(), Fail> {
     }
     check_iptc(&rt, &values)?;
     assert!(rt; values.faults.is_empty());
+    Ok(())
+}
+
+#[test]
+fn what_people_sort_by(rt: HostRuntime) -> Result<(), Fail> {
+    let alloc = rt.alloc();
+    let mut file = start(alloc)?;
+    add_packet(alloc, &mut file, PACKET)?;
+    add_segment(&mut file, 0xed, RESOURCE)?;
+    let Some(values) = read(alloc, file.as_slice())? else {
+        assert!(rt; false);
+        return Ok(());
+    };
+    let sorting = sorting_of(alloc, &values)?;
+    assert_eq!(rt; sorting.rating, Some(4));
+    let texts = [
+        (
+            joined(alloc, sorting.keywords.as_slice())?,
+            "beach; sea & sand",
+        ),
+        (sorting.title, "Strand"),
+        (sorting.description, "Zoë"),
+        (sorting.creator, "Zoë Müller"),
+        (sorting.date, "2024:05:01 12:30:00+02:00"),
+    ];
+    for (found, text) in &texts {
+        let found = found.as_ref().map(|found| found.as_slice());
+        assert_eq!(rt; found, Some(text.as_bytes()));
+    }
+    assert!(rt; sorting.label.is_none() && sorting.copyright.is_none());
+    assert!(rt; sorting.faces.is_empty());
     Ok(())
 }
 
