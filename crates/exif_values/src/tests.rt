@@ -155,6 +155,16 @@ fn packets_of_exiftool(rt: HostRuntime) -> Result<(), Fail> {
     Ok(())
 }
 
+// Checks a text.
+fn check_text(rt: &impl Abort, found: &Option<Vec<u8>>, text: &[u8]) -> Result<(), Fail> {
+    let Some(found) = found else {
+        assert!(rt; false);
+        return Ok(());
+    };
+    assert_eq!(rt; found.as_slice(), text);
+    Ok(())
+}
+
 #[test]
 fn what_people_sort_by(rt: HostRuntime) -> Result<(), Fail> {
     let alloc = rt.alloc();
@@ -166,21 +176,13 @@ fn what_people_sort_by(rt: HostRuntime) -> Result<(), Fail> {
         return Ok(());
     };
     let sorting = sorting_of(alloc, &values)?;
+    let keywords = joined(alloc, sorting.keywords.as_slice())?;
     assert_eq!(rt; sorting.rating, Some(4));
-    let texts = [
-        (
-            joined(alloc, sorting.keywords.as_slice())?,
-            "beach; sea & sand",
-        ),
-        (sorting.title, "Strand"),
-        (sorting.description, "Zoë"),
-        (sorting.creator, "Zoë Müller"),
-        (sorting.date, "2024:05:01 12:30:00+02:00"),
-    ];
-    for (found, text) in &texts {
-        let found = found.as_ref().map(|found| found.as_slice());
-        assert_eq!(rt; found, Some(text.as_bytes()));
-    }
+    check_text(&rt, &keywords, b"beach; sea & sand")?;
+    check_text(&rt, &sorting.title, b"Strand")?;
+    check_text(&rt, &sorting.description, b"Zo\xc3\xab")?;
+    check_text(&rt, &sorting.creator, b"Zo\xc3\xab M\xc3\xbcller")?;
+    check_text(&rt, &sorting.date, b"2024:05:01 12:30:00+02:00")?;
     assert!(rt; sorting.label.is_none() && sorting.copyright.is_none());
     assert!(rt; sorting.faces.is_empty());
     Ok(())
