@@ -1,4 +1,9 @@
+pub mod Arrays
+pub mod Datasets
+pub mod Examples
 pub mod Extensions
 pub mod Paths
 pub mod Readings
+pub mod Regions
+pub mod Sorting
 pub mod Values

@@ -2,6 +2,7 @@
 
 use crate::fault::Cause;
 use crate::reading::read;
+use crate::sorting::{joined, sorting_of};
 use crate::values::Values;
 use exif_iptc::Content;
 use exif_xmp::Fault as XmpFault;
@@ -151,6 +152,39 @@ fn packets_of_exiftool(rt: HostRuntime) -> Result<(), Fail> {
     }
     check_iptc(&rt, &values)?;
     assert!(rt; values.faults.is_empty());
+    Ok(())
+}
+
+// Checks a text.
+fn check_text(rt: &impl Abort, found: &Option<Vec<u8>>, text: &[u8]) -> Result<(), Fail> {
+    let Some(found) = found else {
+        assert!(rt; false);
+        return Ok(());
+    };
+    assert_eq!(rt; found.as_slice(), text);
+    Ok(())
+}
+
+#[test]
+fn what_people_sort_by(rt: HostRuntime) -> Result<(), Fail> {
+    let alloc = rt.alloc();
+    let mut file = start(alloc)?;
+    add_packet(alloc, &mut file, PACKET)?;
+    add_segment(&mut file, 0xed, RESOURCE)?;
+    let Some(values) = read(alloc, file.as_slice())? else {
+        assert!(rt; false);
+        return Ok(());
+    };
+    let sorting = sorting_of(alloc, &values)?;
+    let keywords = joined(alloc, sorting.keywords.as_slice())?;
+    assert_eq!(rt; sorting.rating, Some(4));
+    check_text(&rt, &keywords, b"beach; sea & sand")?;
+    check_text(&rt, &sorting.title, b"Strand")?;
+    check_text(&rt, &sorting.description, b"Zo\xc3\xab")?;
+    check_text(&rt, &sorting.creator, b"Zo\xc3\xab M\xc3\xbcller")?;
+    check_text(&rt, &sorting.date, b"2024:05:01 12:30:00+02:00")?;
+    assert!(rt; sorting.label.is_none() && sorting.copyright.is_none());
+    assert!(rt; sorting.faces.is_empty());
     Ok(())
 }
 

@@ -1,0 +1,10 @@
+use Rattle.std.proofs.Common.{◌≡◌, drop, map}
+use Rattle.exif_xmp.specs.Properties.{property_view}
+use Rattle.exif_values.specs.Arrays.{first_text}
+use Rattle.exif_values.proofs.arrays.first_text.Given as goal
+
+-- the first text of the properties that are left is that of all
+abbrev pub invariant-loop-property : goal.invariant-loop-property
+invariant-loop-property l =
+    first_text (map property_view (drop l.property-index l.properties))
+    ≡ first_text (map property_view l.properties)
