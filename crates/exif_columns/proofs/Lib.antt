@@ -1,4 +1,5 @@
 pub mod CellSteps
+pub mod ColumnSteps
 pub mod Encodings
 pub mod Naming
 pub mod ReadBack

@@ -1,6 +1,9 @@
 pub mod Names
+pub mod Prefixes
+pub mod Columns
 pub mod Texts
 pub mod Raw
+pub mod ValueCells
 pub mod Cells
 pub mod Lines
 pub mod Rows

@@ -56,8 +56,8 @@ pub fn tag_of_name(name: &str) -> Option<Tag>
     or_else(named_in(Context::Tiff, name), others)
 }
 
-// The names in a list, between its commas.
-fn names_in<'a>(alloc: Global, list: &'a str) -> Result<Vec<&'a str>, AllocError>
+/// The names in a list, between its commas.
+pub(crate) fn names_in<'a>(alloc: Global, list: &'a str) -> Result<Vec<&'a str>, AllocError>
     ensures { IfOk result (λ names. names_seen names.items ≡ names_in list.entry.now) }
 {
     list.split(',').collect(alloc)

@@ -7,23 +7,25 @@ use Rattle.json.specs.Print.{print}
 use Rattle.json.specs.Tree.{json_tokens}
 use Rattle.exif_formats.specs.declared.format.PictureFormat.{PictureFormat}
 use Rattle.exif_formats.specs.declared.picture.Picture.{Picture}
-use Rattle.exif_json.specs.Answers.{IsJsonOf, IsJsonOfTags}
+use Rattle.exif_json.specs.Answers.{IsJsonOfTags}
 use Rattle.exif_json.specs.Flat.{flat_json}
+use Rattle.exif_json.specs.Valued.{IsValued}
 use Rattle.exif_json.specs.declared.flat.FileFacts.{FileFacts}
 use Rattle.exif_types.specs.Contents.{ExifContents}
 use Rattle.exif_types.specs.Failures.{Failure}
 use Rattle.exif_types.specs.declared.tag.Tag.{Tag}
+use Rattle.exif_values.specs.Values.{Found}
 
 -- the format of a file that was read
 abbrev pub format_of : Result Picture Failure → Option PictureFormat
 format_of (Ok picture) = picture.format
 format_of (Err e) = None
 
--- the object of a file, with all its fields or with those of some tags
-abbrev pub IsObject : Option (Bor (Vec Tag Global)) → List ℕ → Option PictureFormat
+-- the object of a file, with all its fields and its values or with the fields of some tags
+abbrev pub IsObject : Option (Bor (Vec Tag Global)) → List ℕ → Option PictureFormat → Found
     → Result ExifContents Failure → List ℕ → Type 0
-IsObject None path format answer text = IsJsonOf path format answer text
-IsObject (Some tags) path format answer text =
+IsObject None path format found answer text = IsValued path format found answer text
+IsObject (Some tags) path format found answer text =
     IsJsonOfTags tags.now.items path format answer text
 
 -- the flat object of a file of which this is known, in a line, and how many faults it has

@@ -3,20 +3,23 @@
 ghost use Rattle.std.specs.Prelude.{◌≡◌, IfErr, IfOk, Err};
 ghost use Rattle.exif_commands.specs.Objects.{IsObject, format_of, summary_by};
 ghost use Rattle.exif_reader.specs.Found.{contents_of};
+ghost use Rattle.exif_values.specs.Values.{values_view};
 ghost use Rattle.exif_commands.specs.Reads.{answer_read, made_as, outcome_read, outcome_summed, outcome_written};
 
-use crate::reads::{read_opened, write_read};
+use crate::reads::{outcome_with_missed, read_opened, write_read};
+use crate::values::read_with_values;
 use exif::{Error, Exif, Sink, Tag};
 use exif_decisions::Outcome;
 use exif_formats::{Picture, PictureFormat};
 use exif_inputs::{FileStamp, open, stamp_of};
-use exif_json::{FileFacts, flat_json, json_of_answer, json_of_tags};
+use exif_json::{FileFacts, flat_json, json_of_file, json_of_tags};
 use exif_reader::report::contents_of;
 use exif_session::{Reading, Session, Stop};
+use exif_values::Values;
 use std::alloc::{AllocError, Global};
 
-/// Writes the object of a file in a line, with all its fields or with those of some tags, and
-/// answers the file's status.
+/// Writes the object of a file in a line, with all its fields and its XMP and IPTC values or with
+/// the fields of some tags, reports what was not read of those values, and answers the file's status.
 pub fn write_object<W: Sink, E: Sink>(
     session: &mut Session<'_, '_, W, E>,
     reading: Reading,
@@ -26,11 +29,13 @@ pub fn write_object<W: Sink, E: Sink>(
     ensures pending { session.new.pending ≡ session.old.pending }
 {
     let rt = session.rt;
-    let read = read_opened(rt.alloc(), reading.options(), open(rt, path));
-    let (mut text, outcome) = object_of(rt.alloc(), tags, path.as_bytes(), read)?;
+    let (read, mut found) = read_with_values(rt, path, reading.options(), tags.is_none())?;
+    let values = &mut found.values;
+    let (mut text, outcome) = object_of(rt.alloc(), tags, path.as_bytes(), read, values)?;
     text.push(b'\n')?;
     session.answer(text.as_slice())?;
-    Ok(outcome)
+    found.say(session, path)?;
+    Ok(outcome_with_missed(outcome, found.missed()))
 }
 
 /// Writes the flat object of a file in a line, and answers its status.
@@ -48,20 +53,22 @@ pub fn write_summary<W: Sink, E: Sink>(
     write_read(session, path, made)
 }
 
-// The object of a file of which this was read, and what is counted of the file.
+// The object of a file of which this was read, and what is counted of the file. The values of its
+// fields are added to those of its packets.
 fn object_of(
     alloc: Global,
     tags: Option<&Vec<Tag>>,
     path: &[u8],
     read: Result<Picture, Error>,
+    values: &mut Values,
 ) -> Result<(Vec<u8>, Outcome), AllocError>
     ensures outcome { IfOk result (λ made. made.1 ≡ outcome_read (answer_read read.entry)) }
     ensures object { IfOk result (λ made. IsObject tags.entry path.now (format_of read.entry)
-        (answer_read read.entry) made.0.items) }
+        (values_view values.old) (answer_read read.entry) made.0.items) }
 {
     match read {
-        Ok(Picture { format, answer }) => answered(alloc, tags, path, format, answer),
-        Err(error) => answered(alloc, tags, path, None, Err(error)),
+        Ok(Picture { format, answer }) => answered(alloc, tags, path, format, answer, values),
+        Err(error) => answered(alloc, tags, path, None, Err(error), values),
     }
 }
 
@@ -83,15 +90,16 @@ fn answered(
     path: &[u8],
     format: Option<PictureFormat>,
     answer: Result<Exif, Error>,
+    values: &mut Values,
 ) -> Result<(Vec<u8>, Outcome), AllocError>
     ensures outcome { IfOk result (λ made. made.1 ≡ outcome_read answer.entry) }
-    ensures object { IfOk result (λ made.
-        IsObject tags.entry path.now format answer.entry made.0.items) }
+    ensures object { IfOk result (λ made. IsObject tags.entry path.now format
+        (values_view values.old) answer.entry made.0.items) }
 {
     let outcome = outcome_of(&answer);
     let json = match tags {
         Some(tags) => json_of_tags(alloc, path, format, answer, tags.as_slice())?,
-        None => json_of_answer(alloc, path, format, answer)?,
+        None => json_of_file(alloc, path, format, answer, values)?,
     };
     Ok((json, outcome))
 }

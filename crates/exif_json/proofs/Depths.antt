@@ -50,16 +50,16 @@ finished text start now tree none empty prints is read shallow =
     read_back text tree same shallow
 
 -- the items of an array of shallow values
-items_shallow : {X : Type 0} (json : X → Json) (d : ℕ) → ((x : X) → depth (json x) ≤ d) → (xs : List X) → items_depth (items_of (map json xs)) ≤ d
+pub items_shallow : {X : Type 0} (json : X → Json) (d : ℕ) → ((x : X) → depth (json x) ≤ d) → (xs : List X) → items_depth (items_of (map json xs)) ≤ d
 items_shallow json d shallow [] = omega arith
 items_shallow json d shallow (x ∷ xs) = omega (arith, shallow x, items_shallow json d shallow xs)
 
 -- either of two shallow values
-either_shallow : (b : Bool) (x y : Json) (d : ℕ) → depth x ≤ d → depth y ≤ d → depth (if b then x else y) ≤ d
+pub either_shallow : (b : Bool) (x y : Json) (d : ℕ) → depth x ≤ d → depth y ≤ d → depth (if b then x else y) ≤ d
 either_shallow true x y d h k = h
 either_shallow false x y d h k = k
 
-text_shallow : (bytes : List ℕ) → depth (text_json bytes) ≤ 1
+pub text_shallow : (bytes : List ℕ) → depth (text_json bytes) ≤ 1
 text_shallow bytes = either_shallow (is_utf8 bytes) (J.string bytes) (latin1_json bytes) 1 (omega arith) (omega arith)
 
 count_shallow : (v : Value) → depth (count_json v) ≤ 0
@@ -85,11 +85,11 @@ unfolding field_json
 field_shallow fields f = omega (arith, value_shallow f.value, count_shallow f.value)
 
 -- no member of an object is deeper
-record AreShallow (d : ℕ) (members : List (List ℕ × Json)) : Type 0 where
-  within : members_depth (members_of members) ≤ d
+pub record AreShallow (d : ℕ) (members : List (List ℕ × Json)) : Type 0 where
+  pub within : members_depth (members_of members) ≤ d
 
 -- members of two lists
-both_shallow : (d : ℕ) (first rest : List (List ℕ × Json)) → AreShallow d first → AreShallow d rest → AreShallow d (first ++ rest)
+pub both_shallow : (d : ℕ) (first rest : List (List ℕ × Json)) → AreShallow d first → AreShallow d rest → AreShallow d (first ++ rest)
 both_shallow d [] rest h k = k
 both_shallow d (m ∷ ms) rest h k =
     record { within = omega (arith, h.within, (both_shallow d ms rest (record { within = omega (arith, h.within) }) k).within) }
@@ -117,18 +117,21 @@ summary_shallow fields =
     omega (arith, all.within)
 
 -- the path and the format are shallow
-file_shallow : (path : List ℕ) (format : Option PictureFormat) → AreShallow 1 (file_members path format)
+pub file_shallow : (path : List ℕ) (format : Option PictureFormat) → AreShallow 1 (file_members path format)
 file_shallow path format =
     record { within = omega (arith, text_shallow path, (maybe_shallow 1 (codes "format") format_json format (λ x. omega arith)).within) }
+
+-- what was read of a file is shallow
+pub members_shallow : (tags : Option (List Tag)) (exif : ExifContents) (faults : List Failure) → AreShallow 4 (chosen_members tags exif faults)
+members_shallow tags exif faults = record {
+  within = omega (arith, summary_shallow exif.fields, items_shallow (field_json exif.fields) 3 (field_shallow exif.fields) (chosen tags exif.fields), items_shallow fault_json 0 (λ x. omega arith) faults);
+}
 
 -- the JSON of an answer nests no deeper than JSON that is read may
 pub answer_shallow : (tags : Option (List Tag)) (path : List ℕ) (format : Option PictureFormat) (exif : ExifContents) (faults : List Failure) → depth (chosen_answer tags path format exif faults) ≤ max_depth
 answer_shallow tags path format exif faults =
-    let rest : AreShallow 4 (chosen_members tags exif faults) = record {
-      within = omega (arith, summary_shallow exif.fields, items_shallow (field_json exif.fields) 3 (field_shallow exif.fields) (chosen tags exif.fields), items_shallow fault_json 0 (λ x. omega arith) faults);
-    } in
     let file : AreShallow 4 (file_members path format) = record { within = omega (arith, (file_shallow path format).within) } in
-    omega (arith, (both_shallow 4 _ _ file rest).within)
+    omega (arith, (both_shallow 4 _ _ file (members_shallow tags exif faults)).within)
 
 -- a text is shallow, whether it is a number or not
 number_text_shallow : (text : List ℕ) (rest : Option (List ℕ)) → depth (number_or_text text rest) ≤ 0
@@ -180,10 +183,10 @@ error_shallow path format said =
     omega (arith, (both_shallow 1 _ _ (file_shallow path format) rest).within)
 
 -- the value of an option that is there
-some_is : (x y : Json) → (let o : Option Json = Some x in o ≡ Some y) → x ≡ y
+pub some_is : (x y : Json) → (let o : Option Json = Some x in o ≡ Some y) → x ≡ y
 some_is x y is = cc
 
-none_is_no_some : (y : Json) → (let o : Option Json = None in o ≡ Some y) → ⊥
+pub none_is_no_some : (y : Json) → (let o : Option Json = None in o ≡ Some y) → ⊥
 none_is_no_some y is = cc
 
 -- what is there of a shallow value is shallow

@@ -3,7 +3,12 @@ pub mod Depths
 pub mod Encodings
 pub mod Faults
 pub mod FlatSteps
+pub mod MemberSteps
+pub mod Members
 pub mod Numerals
 pub mod Partial
 pub mod Prints
 pub mod Determined
+pub mod SameDatasets
+pub mod ValuedDepths
+pub mod ValuedTokens

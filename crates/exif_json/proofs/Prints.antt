@@ -57,7 +57,7 @@ tokens_of_members (m ∷ ms) =
     ∙ sym (append_assoc (T.key m.0 ∷ json_tokens m.1) (parts_tokens ms) (T.end_object ∷ []))
 
 -- the tokens of some members and others
-parts_append : (first rest : List (List ℕ × Json)) → parts_tokens first ++ parts_tokens rest ≡ parts_tokens (first ++ rest)
+pub parts_append : (first rest : List (List ℕ × Json)) → parts_tokens first ++ parts_tokens rest ≡ parts_tokens (first ++ rest)
 parts_append first rest = sym (flat_map-append (λ (m : List ℕ × Json). T.key m.0 ∷ json_tokens m.1) first rest)
 
 -- the tokens of an object of some members and others

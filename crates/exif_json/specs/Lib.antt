@@ -8,3 +8,6 @@ pub mod Files
 pub mod Determined
 pub mod Answers
 pub mod Flat
+pub mod Members
+pub mod Metadata
+pub mod Valued

@@ -77,7 +77,7 @@ fn write_faults(printer: &mut Printer, faults: &[Error]) -> Result<(), AllocErro
 }
 
 /// Writes the members of what was read, with the fields that have one of some tags, or all.
-fn write_exif(
+pub(crate) fn write_exif(
     printer: &mut Printer,
     exif: &Exif,
     faults: &[Error],
@@ -117,7 +117,7 @@ fn write_read(
 }
 
 /// Writes the members of a picture without Exif data.
-fn write_nothing(printer: &mut Printer) -> Result<(), AllocError>
+pub(crate) fn write_nothing(printer: &mut Printer) -> Result<(), AllocError>
     ensures { Prints result printer.old.out printer.new.out (parts_tokens no_exif_members) }
 {
     printer.out.key("summary")?;

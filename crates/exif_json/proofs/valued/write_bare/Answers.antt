@@ -1,0 +1,13 @@
+use Rattle.exif_json.specs.Files.{file_members, no_exif_members}
+use Rattle.exif_json.specs.Metadata.{value_members}
+use Rattle.exif_json.proofs.Prints.{prints_of, prints_same, prints_then, writes_then}
+use Rattle.exif_json.proofs.ValuedTokens.{tokens_of_three}
+use Rattle.exif_values.specs.Values.{values_view}
+use Rattle.exif_json.proofs.valued.write_bare.Goals as goal
+
+pub returns : goal.returns
+returns c =
+    prints_same (tokens_of_three (file_members c.args.file.path.now c.args.file.format) no_exif_members (value_members (values_view c.args.values.now)))
+    (writes_then c.in_ok-begin_object.ensures
+    (prints_then c.in_ok-write_file.ensures
+    (prints_then c.in_ok-write_nothing.ensures (prints_then c.in_ok-write_values.ensures (prints_of c.end_object.ensures)))))
