@@ -114,7 +114,7 @@ gives "an unknown prefix is refused" 2 "$mexaldor" table --tags Model,foo:Bar ma
 says "with those that are known" "unknown prefix in 'foo:Bar'; expected iptc, dc, xmp,"
 gives "an unknown dataset is refused" 2 "$mexaldor" table --tags iptc:Keyword many/sample.jpg
 says "by its name" "unknown IPTC dataset 'Keyword'; expected a name such as Keywords,"
-sed 's/4" xmp:Label/4 xmp:Label/' many/lightroom.jpg >many/broken.jpg
+sed 's/4" xmp:Label/4  xmp:Label/' many/lightroom.jpg >many/broken.jpg
 gives "a packet that is not XML is reported" 3 "$mexaldor" table --tags xmp:Rating many/broken.jpg
 says "with its cause" "many/broken.jpg: XMP is not well formed, at byte"
 row "and the row is written" '[["many/broken.jpg", ""]]'

@@ -94,6 +94,7 @@ impl FileValues {
 }
 
 // Why the packets of a file were not read, in words.
+#[derive(Clone, Copy, Debug)]
 struct UnreadLine<'a>(&'a Unread);
 
 impl fmt::Display for UnreadLine<'_> {
