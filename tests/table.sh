@@ -116,10 +116,10 @@ gives "an unknown dataset is refused" 2 "$mexaldor" table --tags iptc:Keyword ma
 says "by its name" "unknown IPTC dataset 'Keyword'; expected a name such as Keywords,"
 sed 's/4" xmp:Label/4  xmp:Label/' many/lightroom.jpg >many/broken.jpg
 gives "a packet that is not XML is reported" 3 "$mexaldor" table --tags xmp:Rating many/broken.jpg
-says "with its cause" "many/broken.jpg: XMP is not well formed, at byte"
+says "with its cause" "many/broken.jpg: XMP ends too early, at byte"
 row "and the row is written" '[["many/broken.jpg", ""]]'
 gives "by JSON, too" 3 "$mexaldor" json many/broken.jpg
-says "with the same cause" "many/broken.jpg: XMP is not well formed, at byte"
+says "with the same cause" "many/broken.jpg: XMP ends too early, at byte"
 gives "Exif columns read no packet" 0 "$mexaldor" table --tags Model many/broken.jpg
 if has exiftool; then
     cp files/whole.jpg many/valued.jpg
