@@ -1,6 +1,7 @@
 -- Each byte of a scrubbed file is one of a part that belongs there, or of one that was answered.
-use Rattle.std.proofs.Common.{◌≡◌, ◌∙◌, ◌<◌, ◌≤◌, ◌+◌, zero, suc, not, ℕ, nat_lt, Bool, true, false, List, [], ◌∷◌, length, All, Contains, is_some, Option, Some, None, Result, Ok, Err, refl, ap, arith, if◌then◌else◌}
+use Rattle.std.proofs.Common.{◌≡◌, inl, inr, ◌∙◌, ◌<◌, ◌≤◌, ◌+◌, zero, suc, not, ℕ, nat_lt, Bool, true, false, List, [], ◌∷◌, length, All, Contains, is_some, Option, Some, None, Result, Ok, Err, refl, ap, arith, if◌then◌else◌}
 use Rattle.std.proofs.lemmas.Bool.{false≢true}
+use Rattle.std.proofs.lemmas.Bool.Decides.{nat_tests}
 use Rattle.std.proofs.lemmas.List.Elements.{All-contains}
 use Rattle.exif_formats.specs.Jxl.{begins_codestream}
 use Rattle.exif_formats.specs.Pictures.{png_data}
@@ -104,6 +105,12 @@ by_format file (Some format.Cr3) removed change parts t a e is = absurd (false�
 
 -- ---- bytes
 
+before : (i n : ℕ) → nat_lt i n ≡ true → i < n
+before i n e = grind (arith, nat_tests)
+
+behind : (i n : ℕ) → nat_lt i n ≡ false → n ≤ i
+behind i n e = grind (arith, nat_tests)
+
 -- a byte of parts in order is one of one of them
 byte_in : (at : ℕ) (parts : List Part) (end i : ℕ) → AreInOrder at parts end → at ≤ i → i < end
     → (part : Part) × Contains parts part × IsIn part i
@@ -111,12 +118,15 @@ byte_in at [] end i o above below = absurd (none o above below)
   where
     none : at ≡ end → at ≤ i → i < end → ⊥
     none e a b = omega (arith, e, a, b)
-byte_in at (part ∷ parts) end i o above below = by (nat_lt i (at + part.len)) refl
+byte_in at (part ∷ parts) end i o above below =
+    by (nat_lt i (at + part.len)) refl (λ past. byte_in (at + part.len) parts end i o.1 past below)
   where
-    by : (b : Bool) → nat_lt i (at + part.len) ≡ b → (p : Part) × Contains (part ∷ parts) p × IsIn p i
-    by true t = (part, (zero, omega arith, refl), (omega (arith, o.0, above), omega (arith, o.0, t)))
-    by false f =
-        let r = byte_in (at + part.len) parts end i o.1 (omega (arith, f)) below in
+    by : (b : Bool) → nat_lt i (at + part.len) ≡ b
+        → (at + part.len ≤ i → (p : Part) × Contains parts p × IsIn p i)
+        → (p : Part) × Contains (part ∷ parts) p × IsIn p i
+    by true t later = (part, (zero, omega arith, refl), (omega (arith, o.0, above), let within = before i (at + part.len) t in omega (arith, o.0, within)))
+    by false f later =
+        let r = later (behind i (at + part.len) f) in
         let c = r.1 in
         let less = c.1 in
         (r.0, (suc c.0, omega arith, c.2), r.2)
