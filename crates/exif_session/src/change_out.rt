@@ -75,7 +75,10 @@ fn end_into<W: Sink, E: Sink>(
         let count = together_len(rest);
         let more = count - 1;
         let first = &rest[0];
-        session.say(path, &Together { first, more })?;
+        let line = Together { first, more };
+        let said = session.say(path, &line);
+        let Together { first: _first, more: _more } = line;
+        said?;
         rest = &rest[count..];
     }
     Ok(Outcome::of_done(left.is_empty()))

@@ -257,7 +257,9 @@ impl<'p, 'c, 'r, E: Sink> Messages<'p, 'c, 'r, E> {
             let count = together_len(rest);
             let more = count - 1;
             let first = &rest[0];
-            self.console.say(path, &Together { first, more });
+            let line = Together { first, more };
+            self.console.say(path, &line);
+            let Together { first: _first, more: _more } = line;
             rest = &rest[count..];
         }
         for note in said_notes(self.quiet, report.notes.as_slice()) {
