@@ -79,7 +79,7 @@ fn end_into<W: Sink, E: Sink>(
         let said = session.say(path, &line);
         let Together { first: _first, more: _more } = line;
         said?;
-        rest = &rest[count..];
+        rest = rest.get(count..).unwrap_or(&[]);
     }
     Ok(Outcome::of_done(left.is_empty()))
 }
