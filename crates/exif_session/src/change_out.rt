@@ -77,7 +77,10 @@ fn end_into<W: Sink, E: Sink>(
         let first = &rest[0];
         let line = Together { first, more };
         let said = session.say(path, &line);
-        let Together { first: _first, more: _more } = line;
+        let Together {
+            first: _first,
+            more: _more,
+        } = line;
         said?;
         rest = rest.get(count..).unwrap_or(&[]);
     }

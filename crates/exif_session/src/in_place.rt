@@ -259,8 +259,11 @@ impl<'p, 'c, 'r, E: Sink> Messages<'p, 'c, 'r, E> {
             let first = &rest[0];
             let line = Together { first, more };
             self.console.say(path, &line);
-            let Together { first: _first, more: _more } = line;
-            rest = &rest[count..];
+            let Together {
+                first: _first,
+                more: _more,
+            } = line;
+            rest = rest.get(count..).unwrap_or(&[]);
         }
         for note in said_notes(self.quiet, report.notes.as_slice()) {
             self.console.say(path, &NoteLine(*note));
