@@ -50,7 +50,11 @@ check "are more" python3 -c 'import json; assert len(json.load(open("out"))["fie
 gives "JSON of an unknown tag is refused" 2 "$mexaldor" json --tags Nothing many/sample.jpg
 gives "a summary has no tags" 2 "$mexaldor" json --summary --tags Model many/sample.jpg
 
-# XMP properties and IPTC datasets
+# XMP properties and IPTC datasets. what PYTHON: this holds of the object that the last output has.
+what() {
+    python3 -c 'import json, sys; it = json.load(open("out")); assert eval(sys.argv[1]), it' "$2"
+    passes "$1" $?
+}
 
 # with_packet FILE: the plain picture with the packet of standard input behind its first marker.
 with_packet() {
@@ -98,20 +102,32 @@ gives "a table of XMP" 0 "$mexaldor" table --header --tags xmp:Rating,dc:subject
 row "has texts, items and one language" '[["path", "xmp:Rating", "dc:subject", "dc:title", "mwg-rs:Regions/mwg-rs:RegionList[2]/mwg-rs:Name", "dc:creator"], ["many/lightroom.jpg", "4", "beach; sun; sea", "The \"harbour\"", "Grace", ""], ["many/gimp.jpg", "2", "", "Hello", "", "One"], ["many/plain.jpg", "", "", "", "", ""]]'
 gives "an item alone" 0 "$mexaldor" table --tags 'dc:subject[2],xmp:Label,Model' many/lightroom.jpg
 row "is shown by its path" '[["many/lightroom.jpg", "sun; sea", "Red", ""]]'
+gives "JSON of a picture without Exif data" 0 "$mexaldor" json many/lightroom.jpg
+what "has its properties" 'it["fields"] == [] and "iptc" not in it and it["xmp"] == {"xmp:Rating": "4", "xmp:Label": "Red", "dc:subject": ["beach", "sun; sea"], "lr:hierarchicalSubject": ["places|beach"], "dc:title": {"de": "Der Hafen", "x-default": "The \"harbour\""}, "mwg-rs:Regions/mwg-rs:RegionList[1]/mwg-rs:Name": "Ada", "mwg-rs:Regions/mwg-rs:RegionList[1]/mwg-rs:Type": "Face", "mwg-rs:Regions/mwg-rs:RegionList[2]/mwg-rs:Name": "Grace", "mwg-rs:Regions/mwg-rs:RegionList[2]/mwg-rs:Type": "Face"}'
+gives "and of GIMP" 0 "$mexaldor" json many/gimp.jpg
+what "with the usual prefixes" 'it["xmp"] == {"dc:title": {"en": "Hello"}, "dc:creator": ["One"], "xmp:Rating": "2", "GIMP:API": "2.0"}'
+gives "JSON without such values" 0 "$mexaldor" json many/plain.jpg
+what "has no member for them" '"xmp" not in it and "iptc" not in it'
+gives "JSON of some tags has none" 0 "$mexaldor" json --tags Model many/lightroom.jpg
+what "either" '"xmp" not in it'
 gives "an unknown prefix is refused" 2 "$mexaldor" table --tags Model,foo:Bar many/sample.jpg
 says "with those that are known" "unknown prefix in 'foo:Bar'; expected iptc, dc, xmp,"
 gives "an unknown dataset is refused" 2 "$mexaldor" table --tags iptc:Keyword many/sample.jpg
 says "by its name" "unknown IPTC dataset 'Keyword'; expected a name such as Keywords,"
 sed 's/4" xmp:Label/4  xmp:Label/' many/lightroom.jpg >many/broken.jpg
 gives "a packet that is not XML is reported" 3 "$mexaldor" table --tags xmp:Rating many/broken.jpg
-says "by its name" "many/broken.jpg: XMP "
+says "with its cause" "many/broken.jpg: XMP ends too early, at byte"
 row "and the row is written" '[["many/broken.jpg", ""]]'
+gives "by JSON, too" 3 "$mexaldor" json many/broken.jpg
+says "with the same cause" "many/broken.jpg: XMP ends too early, at byte"
 gives "Exif columns read no packet" 0 "$mexaldor" table --tags Model many/broken.jpg
 if has exiftool; then
     cp files/whole.jpg many/valued.jpg
     exiftool -q -overwrite_original -XMP-xmp:Rating=3 -XMP-dc:subject=beach -XMP-dc:subject=sun "-XMP-dc:title=The harbour" "-XMP-dc:title-de=Der Hafen" -IPTC:Keywords=beach -IPTC:Keywords=sun -IPTC:City=Hobart many/valued.jpg
     gives "values that exiftool wrote" 0 "$mexaldor" table --tags xmp:Rating,dc:subject,dc:title,iptc:keywords,iptc:City,Orientation many/valued.jpg
     row "are read" '[["many/valued.jpg", "3", "beach; sun", "The harbour", "beach; sun", "Hobart", "row 0 at right and column 0 at top"]]'
+    gives "by JSON, too" 0 "$mexaldor" json many/valued.jpg
+    what "with arrays and languages" 'it["xmp"]["dc:subject"] == ["beach", "sun"] and it["xmp"]["dc:title"] == {"x-default": "The harbour", "de": "Der Hafen"} and it["xmp"]["xmp:Rating"] == "3" and it["iptc"]["Keywords"] == ["beach", "sun"] and it["iptc"]["City"] == "Hobart" and it["summary"]["orientation"] == 6'
     gives "values of a TIFF file" 0 sh -c 'cp files/whole.tif many/valued.tif && exiftool -q -overwrite_original -XMP-xmp:Rating=5 -IPTC:Keywords=hill many/valued.tif && "$1" table --tags xmp:Rating,iptc:Keywords many/valued.tif' sh "$mexaldor"
     row "are in its fields" '[["many/valued.tif", "5", "hill"]]'
     gives "values of standard input" 0 sh -c '"$1" table --tags xmp:Rating - <many/valued.jpg' sh "$mexaldor"
