@@ -1,8 +1,6 @@
 -- What the options of the subcommands for many pictures ask for.
 use Rattle.std.specs.Prelude.{ℕ, if◌then◌else◌, not, List, [], ◌∷◌, ◌++◌, length, Bool, true, false, Option, None, Some, is_some, Result, Ok, Err, codes}
 use Rattle.std.specs.Str.{chars}
-use Rattle.exif_columns.specs.Columns.{TheColumn}
-use Rattle.exif_columns.specs.declared.rows.Style.{Style}
 use Rattle.exif_decisions.specs.Asking.{mistake_text, thumbnail_aim, undo_mistake}
 use Rattle.exif_decisions.specs.Escaping.{escaped_text}
 use Rattle.exif_decisions.specs.declared.mistake.Aim.{Aim}
@@ -22,7 +20,7 @@ use Rattle.exif_types.specs.declared.tag.Tag.{Tag}
 use Rattle.clap.specs.declared.parser.matches.ArgMatches.{ArgMatches}
 use Rattle.exif_arguments.specs.Given.{flag_in, or_empty, text_in, text_or_empty, words_in}
 use Rattle.exif_arguments.specs.Requests.{but_last, keeping_for, last_of, reading_for, requested, takes_many}
-use Rattle.exif_arguments.specs.Unknown.{columns_in, tags_in}
+use Rattle.exif_arguments.specs.Unknown.{tags_in}
 use Rattle.exif_arguments.specs.Views.{TheRequest, the_catalog, the_check, the_geotag, the_json, the_rename, the_show, the_summary, the_table, the_thumbnail, the_thumbnails, the_touch, the_undo}
 
 -- ---- show, json and check
@@ -57,24 +55,19 @@ check_asked found =
 
 -- ---- table
 
-abbrev pub style_in : ArgMatches → Style
-style_in found = record {
-  form = cells_by (flag_in found (codes "raw"));
-  separator = separator_by (flag_in found (codes "tsv"));
-}
-
-abbrev pub table_by : ArgMatches → Result (List TheColumn) (List ℕ) → Result TheRequest (List ℕ)
-table_by found (Ok columns) =
+abbrev pub table_by : ArgMatches → Result (List Tag) (List ℕ) → Result TheRequest (List ℕ)
+table_by found (Ok tags) =
     requested (the_table (record {
       reading = reading_for found false;
-      columns = columns;
-      style = style_in found;
+      tags = tags;
+      form = cells_by (flag_in found (codes "raw"));
+      separator = separator_by (flag_in found (codes "tsv"));
       header = flag_in found (codes "header");
     })) (words_in found (codes "word")) found
 table_by found (Err wrong) = Err wrong
 
 abbrev pub table_asked : ArgMatches → Result TheRequest (List ℕ)
-table_asked found = table_by found (columns_in (text_or_empty found (codes "tags")))
+table_asked found = table_by found (tags_in (text_or_empty found (codes "tags")))
 
 -- ---- thumbnail
 

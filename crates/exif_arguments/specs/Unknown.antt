@@ -1,9 +1,7 @@
 -- What is said of names of tags that are not known.
 use Rattle.std.specs.Prelude.{ℕ, List, ◌++◌, Option, None, Some, Result, Ok, Err, codes}
 use Rattle.exif_assign.specs.Assigning.{around}
-use Rattle.exif_columns.specs.Columns as columns
-use Rattle.exif_columns.specs.Columns.{TheColumn, TheUnknown, no_dataset, no_prefix, no_tag}
-use Rattle.exif_columns.specs.Names as names
+use Rattle.exif_columns.specs.Names as columns
 use Rattle.exif_decisions.specs.Escaping.{escaped_text}
 use Rattle.exif_decisions.specs.Tags.{nearest}
 use Rattle.exif_types.specs.declared.tag.Tag.{Tag}
@@ -26,36 +24,7 @@ tags_or_wrong (Err name) = Err (unknown_tag name)
 
 -- those of a list of names with commas between them
 abbrev pub tags_in : List ℕ → Result (List Tag) (List ℕ)
-tags_in list = tags_or_wrong (names.tags_in list)
-
--- what is said of an IPTC dataset that is not known
-abbrev pub unknown_dataset : List ℕ → List ℕ
-unknown_dataset name =
-    codes "unknown IPTC dataset '"
-    ++ (escaped_text name
-    ++ codes "'; expected a name such as Keywords, By-line, Caption-Abstract or City; the man page lists them")
-
--- and of a path whose prefix is not known
-abbrev pub unknown_prefix : List ℕ → List ℕ
-unknown_prefix path =
-    codes "unknown prefix in '"
-    ++ (escaped_text path
-    ++ codes "'; expected iptc, dc, xmp, xmpRights, xmpMM, photoshop, tiff, exif, exifEX, aux, crs, Iptc4xmpCore, Iptc4xmpExt, plus, cc, lr, stEvt, stRef, stDim, stArea, xmpDM, mwg-rs, mwg-kw, MP, MPRI, MPReg, MicrosoftPhoto, digiKam, darktable, GPano or pdf")
-
-abbrev pub unknown_column : TheUnknown → List ℕ
-unknown_column (no_tag name) = unknown_tag name
-unknown_column (no_dataset name) = unknown_dataset name
-unknown_column (no_prefix path) = unknown_prefix path
-
--- columns, or what is said of the first name that is not known
-abbrev pub columns_or_wrong : Result (List TheColumn) TheUnknown
-    → Result (List TheColumn) (List ℕ)
-columns_or_wrong (Ok columns) = Ok columns
-columns_or_wrong (Err unknown) = Err (unknown_column unknown)
-
--- those of a list of names with commas between them
-abbrev pub columns_in : List ℕ → Result (List TheColumn) (List ℕ)
-columns_in list = columns_or_wrong (columns.columns_in list)
+tags_in list = tags_or_wrong (columns.tags_in list)
 
 -- the name in a word: what is before its first `=` (61), or all of it
 abbrev pub front_of : List ℕ → Option (List ℕ × List ℕ) → List ℕ

@@ -6,8 +6,8 @@ use Rattle.exif_assign.specs.Assigning.{parts_of}
 use Rattle.exif_setting.specs.declared.dates.Dates.{Dates}
 use Rattle.exif_change.specs.declared.notes.Color.{Color}
 use Rattle.exif_change.specs.declared.scrubbing.Removed.{Removed}
-use Rattle.exif_columns.specs.Columns.{TheColumn, column_seen}
-use Rattle.exif_columns.specs.declared.rows.Style.{Style}
+use Rattle.exif_columns.specs.declared.cells.Form as cells
+use Rattle.exif_columns.specs.declared.rows.Separator.{Separator}
 use Rattle.exif_copy.specs.declared.selected.Selection.{Selection}
 use Rattle.exif_datetime.specs.declared.shift.ClockShift.{ClockShift}
 use Rattle.exif_files.specs.Names.{name_if}
@@ -75,8 +75,9 @@ target_seen (InPlace keeping) = the_place keeping
 -- the rows of a table
 pub record TheTable : Type 0 where
   pub reading : Reading
-  pub columns : List TheColumn
-  pub style : Style
+  pub tags : List Tag
+  pub form : cells.Form
+  pub separator : Separator
   pub header : Bool
 
 -- how files get other names
@@ -129,8 +130,9 @@ task_seen (task.Show reading) = the_show reading
 task_seen (task.Json reading tags) = the_json reading (option_map (λ all. all.items) tags)
 task_seen (task.Table table) = the_table (record {
   reading = table.reading;
-  columns = map column_seen table.columns.items;
-  style = table.style;
+  tags = table.tags.items;
+  form = table.form;
+  separator = table.separator;
   header = table.header;
 })
 task_seen (task.Check form strict) = the_check form strict

@@ -91,12 +91,12 @@ fn json<'a>(alloc: Global) -> Result<Command<'a>, AllocError> {
 
 fn table<'a>(alloc: Global) -> Result<Command<'a>, AllocError> {
     let command = Command::new(alloc, "table")
-        .about("Print one row of a table per file: its path and the values that are asked for")
+        .about("Print one row of a table per file: its path and the fields that are asked for")
         .override_usage("mexaldor table [OPTIONS] --tags TAG,TAG... PATH...")
         .after_help("Rows are CSV (RFC 4180). Run 'mexaldor tags' for the names of tags.")
         .arg(
             options::tags(alloc)
-                .help("The columns behind the path, e.g. Model,FNumber,xmp:Rating,dc:subject,iptc:Keywords")
+                .help("The columns behind the path, e.g. DateTimeOriginal,Model,FNumber")
                 .required(true),
         )?
         .arg(options::flag(

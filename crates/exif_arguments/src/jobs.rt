@@ -10,9 +10,8 @@ use crate::given::{has_text, is_set, text_of, text_or_empty};
 use crate::selection::{
     Answer, keeping_of, reading_of, request, take_last, takes_many, words_of, wrong,
 };
-use crate::tags::columns_in;
+use crate::tags::tags_in;
 use clap::ArgMatches;
-use exif_columns::Style;
 use exif_decisions::{Aim, Escaped, Mistake, thumbnail_aim, undo_mistake};
 use exif_geotag::{gap_by, is_offset};
 use exif_rename::{DateTag, Pattern};
@@ -24,18 +23,15 @@ use std::alloc::{AllocError, Global};
 pub fn table_of<'a>(alloc: Global, matches: &ArgMatches<'a>) -> Answer<Request<'a>>
     ensures { IfOk result (λ answer. answer_seen answer ≡ table_asked matches.now) }
 {
-    let columns = match columns_in(alloc, text_or_empty(matches, "tags"))? {
-        Ok(columns) => columns,
+    let tags = match tags_in(alloc, text_or_empty(matches, "tags"))? {
+        Ok(tags) => tags,
         Err(wrong) => return Ok(Err(wrong)),
-    };
-    let style = Style {
-        form: cells_by(is_set(matches, "raw")),
-        separator: separator_by(is_set(matches, "tsv")),
     };
     let table = Table {
         reading: reading_of(matches, false),
-        columns,
-        style,
+        tags,
+        form: cells_by(is_set(matches, "raw")),
+        separator: separator_by(is_set(matches, "tsv")),
         header: is_set(matches, "header"),
     };
     let files = words_of(alloc, matches)?;

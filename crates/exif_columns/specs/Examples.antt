@@ -7,7 +7,6 @@ use Rattle.csv.specs.Writing.{escaped, fields_text, is_blank}
 use Rattle.exif_table.specs.declared.context.Context.TheVariants as context
 use Rattle.exif_text.specs.Decimal.{decimal_text, fraction_text, in_digits, without_last_zeros}
 use Rattle.exif_types.specs.TagRows.{row_of_tag}
-use Rattle.exif_types.specs.TagTexts.{tag_text}
 use Rattle.exif_types.specs.Units.{unit_text}
 use Rattle.exif_types.specs.ValueTexts.{text_of as shown_as}
 use Rattle.exif_types.specs.declared.field.Field.{Field}
@@ -20,13 +19,14 @@ use Rattle.exif_iptc.specs.Values.{DatasetValue, TextIs}
 use Rattle.exif_iptc.specs.declared.kind.Kind.TheVariants as kind
 use Rattle.exif_xmp.specs.Properties.{PropertyView}
 use Rattle.exif_xmp.specs.declared.property.Form.TheVariants.{Text}
-use Rattle.exif_columns.specs.Cells.{cell_in, cell_of}
+use Rattle.exif_columns.specs.Cells.{cell_in, cell_of, header_cells, picture_cells}
 use Rattle.exif_columns.specs.Columns.{columns_in, no_dataset, no_prefix, the_dataset, the_path, the_tag}
-use Rattle.exif_columns.specs.Lines.{csv_line, tsv_line}
+use Rattle.exif_columns.specs.Lines.{csv_line, line_of, tsv_line}
 use Rattle.exif_columns.specs.Names.{tag_of_name, tags_in}
 use Rattle.exif_columns.specs.Raw.{raw_value}
 use Rattle.exif_columns.specs.ValueCells.{iptc_cell, xmp_cell}
 use Rattle.exif_columns.specs.declared.cells.Form.TheVariants.{Display, Raw}
+use Rattle.exif_columns.specs.declared.rows.Separator.TheVariants.{Comma, Tab}
 
 -- DateTimeOriginal, Model and FNumber (Exif 2.32, 4.6.4 and 4.6.5)
 abbrev date : Tag
@@ -130,7 +130,8 @@ rule_7 : csv_line (codes "aaa" ∷ codes "b\"bb" ∷ codes "ccc" ∷ []) ≡ cod
 unfolding fields_text is_blank escaped
 rule_7 = refl
 
-picture : csv_line (codes "a.jpg" ∷ map (cell_in (Some fields) Raw) (model ∷ f_number ∷ date ∷ []))
+picture : line_of Comma
+    (picture_cells (codes "a.jpg") (Some fields) Raw (model ∷ f_number ∷ date ∷ []))
     ≡ codes "a.jpg,\"B, \"\"C\"\"\",2.8,\n"
 unfolding fields_text is_blank escaped decimal_text fraction_text without_last_zeros in_digits digits is_utf8 chars encode_utf8
 picture = refl
@@ -139,7 +140,7 @@ in_tabs : tsv_line (codes "a\tb" ∷ codes "c\\d" ∷ codes "e\r\nf" ∷ [])
     ≡ codes "a\\tb\tc\\\\d\te\\r\\nf\n"
 in_tabs = refl
 
-head : tsv_line (codes "path" ∷ map tag_text (date ∷ model ∷ f_number ∷ []))
+head : line_of Tab (header_cells (date ∷ model ∷ f_number ∷ []))
     ≡ codes "path\tDateTimeOriginal\tModel\tFNumber\n"
 unfolding row_of_tag
 head = refl

@@ -1,13 +1,12 @@
 //! What a column shows, by its name.
 
-ghost use Rattle.std.specs.Prelude.{◌≡◌, IfOk, OnOk, ◌++◌, map, string_bytes};
-ghost use Rattle.exif_columns.specs.Columns.{answer_seen, column_of, column_seen, column_text, columns_from, columns_in, columns_seen, dataset_column, dataset_text, is_value, path_column, shows_values, tag_column};
+ghost use Rattle.std.specs.Prelude.{◌≡◌, IfOk};
+ghost use Rattle.exif_columns.specs.Columns.{answer_seen, column_of, columns_from, columns_in, columns_seen, dataset_column, is_value, path_column, shows_values, tag_column};
 ghost use Rattle.exif_columns.specs.Names.{names_seen};
 
 use crate::names::{names_in, tag_of_name};
 use crate::prefixes::is_known_prefix;
-use crate::texts::push_shown;
-use exif_iptc::{DatasetId, dataset_of_name, name_of};
+use exif_iptc::{DatasetId, dataset_of_name};
 use exif_types::Tag;
 use std::alloc::{AllocError, Global};
 
@@ -118,29 +117,6 @@ pub fn columns_of<'a>(
 {
     let names = names_in(alloc, list)?;
     columns_from(alloc, names.as_slice())
-}
-
-// Appends the name of a dataset.
-fn push_dataset(text: &mut String, id: DatasetId) -> Result<(), AllocError>
-    ensures { OnOk result (string_bytes text.new ≡ string_bytes text.old ++ dataset_text id) }
-{
-    text.push_str("iptc:")?;
-    match name_of(id.record_number, id.number) {
-        Some(name) => text.push_str(name),
-        None => Ok(()),
-    }
-}
-
-/// Appends the name of a column: that of its tag or dataset, or the path.
-pub(crate) fn push_column(text: &mut String, column: &Column) -> Result<(), AllocError>
-    ensures { OnOk result (string_bytes text.new
-        ≡ string_bytes text.old ++ column_text (column_seen column.now)) }
-{
-    match column {
-        Column::Tag(tag) => push_shown(text, *tag),
-        Column::Xmp(path) => text.push_str(path.as_str()),
-        Column::Iptc(id) => push_dataset(text, *id),
-    }
 }
 
 // Whether a column shows XMP properties or IPTC values.

@@ -1,2 +1,1 @@
 mod Checked
-pub mod Fronts

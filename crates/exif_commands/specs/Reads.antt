@@ -43,11 +43,6 @@ abbrev pub outcome_written : Result (Vec ℕ Global × ℕ) Failure → Outcome
 outcome_written (Ok (text, faults)) = outcome_with faults
 outcome_written (Err e) = Refused
 
--- the same, where so much was not read of its XMP and IPTC values
-abbrev pub outcome_missed : Outcome → ℕ → Outcome
-outcome_missed Done missed = outcome_with missed
-outcome_missed other missed = other
-
 -- the same of a report
 abbrev pub outcome_reported : Result ℕ Failure → Outcome
 outcome_reported (Ok faults) = outcome_with faults

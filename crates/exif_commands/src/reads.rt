@@ -5,7 +5,7 @@ ghost use Rattle.exif_formats.specs.Formats.{format_in};
 ghost use Rattle.exif_formats.specs.Pictures.{ReadsPicture};
 ghost use Rattle.exif_inputs.specs.Uses.{held};
 ghost use Rattle.exif_types.specs.declared.error.Error.TheVariants.{Io};
-ghost use Rattle.exif_commands.specs.Reads.{answer_read, outcome_missed, outcome_written};
+ghost use Rattle.exif_commands.specs.Reads.{answer_read, outcome_written};
 
 use exif::{Error, Exif, Sink};
 use exif_decisions::Outcome;
@@ -59,16 +59,5 @@ pub fn write_read<W: Sink, E: Sink>(
             session.skip_faults(path, faults)
         }
         Err(error) => session.refuse(path, &error),
-    }
-}
-
-/// What is counted of a file of whose XMP and IPTC values so much was not read: one that is done is
-/// not done completely then.
-pub fn outcome_with_missed(outcome: Outcome, missed: usize) -> Outcome
-    ensures { result ≡ outcome_missed outcome missed }
-{
-    match outcome {
-        Outcome::Done => Outcome::of_faults(missed),
-        _ => outcome,
     }
 }

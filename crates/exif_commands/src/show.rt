@@ -5,17 +5,17 @@ ghost use Rattle.exif_session.specs.declared.session.Stop.TheVariants.{Output};
 ghost use Rattle.exif_reader.specs.Found.{counted_in};
 ghost use Rattle.exif_commands.specs.Reads.{answer_read, outcome_reported};
 
-use crate::reads::answer_of;
-use crate::values::{FileValues, read_with_values};
+use crate::reads::{answer_of, read_opened};
+use crate::values::{file_values, held_values};
 use exif::{Counted, Error, Sink};
 use exif_base::send_all;
 use exif_decisions::{Escaped, Outcome};
 use exif_formats::Picture;
-use exif_inputs::Lines;
+use exif_inputs::{Lines, open};
 use exif_reader::report::{found_of, write_all};
 use exif_session::{Reading, Session, Stop};
-use exif_show_text::lines_of;
-use exif_values::{Values, read_fields};
+use exif_show_text::{FaultLine, lines_of};
+use exif_values::{Fault, Values, read_fields};
 use std::alloc::Global;
 use std::io;
 
@@ -27,9 +27,9 @@ pub fn show_file<W: Sink, E: Sink>(
 ) -> Result<Outcome, Stop>
     ensures pending { session.new.pending ≡ session.old.pending }
 {
-    let Shown { answer, found } = show(session.rt, reading, path, session.out)?;
-    found.say(session, path)?;
-    end_report(session, path, with_faults(answer, found.missed()))
+    let Shown { answer, faults } = show(session.rt, reading, path, session.out)?;
+    say_faults(session, path, faults.as_slice())?;
+    end_report(session, path, with_faults(answer, faults.len()))
 }
 
 // What was shown of a file: how many faults were skipped in its Exif data, or why it was refused,
@@ -37,7 +37,21 @@ pub fn show_file<W: Sink, E: Sink>(
 #[derive(Drop)]
 struct Shown {
     answer: Result<u64, Error>,
-    found: FileValues,
+    faults: Vec<Fault>,
+}
+
+// Reports what was not read of XMP and IPTC values.
+fn say_faults<W: Sink, E: Sink>(
+    session: &mut Session<'_, '_, W, E>,
+    path: &str,
+    faults: &[Fault],
+) -> Result<(), Stop>
+    ensures { session.new.pending ≡ session.old.pending }
+{
+    for fault in faults {
+        session.say(path, &FaultLine(*fault))?;
+    }
+    Ok(())
 }
 
 // How many faults were skipped, with so many more.
@@ -79,13 +93,22 @@ fn show<W: Sink>(
     let name = Escaped(path);
     let line = format!(in alloc; "{name}:\n")?;
     send_all(out, line.as_bytes()).map_err(Stop::Output)?;
-    let (read, mut found) = read_with_values(rt, path, reading.options(), true)?;
+    let input = open(rt, path);
+    let held = held_values(alloc, &input)?;
+    let read = read_opened(alloc, reading.options(), input);
+    let mut values = match held {
+        Some(values) => values,
+        None => file_values(rt, path, &read)?,
+    };
     let mut lines = Counted::new(Lines::new(alloc, out, reading.full));
-    let result = report_picture(alloc, read, &mut found.values, &mut lines);
-    let text = lines_of(alloc, &found.values)?;
+    let result = report_picture(alloc, read, &mut values, &mut lines);
+    let text = lines_of(alloc, &values)?;
     let _ = send_all(&mut lines, text.as_bytes());
     let answer = unless_failed(lines.into_inner().failed(), result)?;
-    Ok(Shown { answer, found })
+    Ok(Shown {
+        answer,
+        faults: values.faults,
+    })
 }
 
 // What was answered of a file, unless the output took no more.

@@ -6,7 +6,7 @@ ghost use Rattle.exif_session.specs.Words.{partial_of, renamed_as, verb_of};
 
 use exif::Tag;
 use exif_change::{Color, Removed};
-use exif_columns::{Column, Style};
+use exif_columns::{self as columns, Separator};
 use exif_copy::Selection;
 use exif_files::Keeping;
 use exif_formats::Options;
@@ -133,10 +133,12 @@ impl Task<'_> {
 pub struct Table {
     /// How files are read.
     pub reading: Reading,
-    /// What the columns behind the path show.
-    pub columns: Vec<Column>,
-    /// How cells are written.
-    pub style: Style,
+    /// What the columns behind the path are.
+    pub tags: Vec<Tag>,
+    /// How values are written.
+    pub form: columns::Form,
+    /// What is between two cells.
+    pub separator: Separator,
     /// Whether the first line names the columns.
     pub header: bool,
 }

@@ -1,5 +1,5 @@
 use Rattle.std.proofs.Common.{◌≡◌}
-use Rattle.exif_commands.proofs.values.FileValues.say.Given as goal
+use Rattle.exif_commands.proofs.show.say_faults.Given as goal
 
 -- what waits, and what was counted, stay
 abbrev pub invariant-loop-fault : goal.invariant-loop-fault
