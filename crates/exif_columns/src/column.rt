@@ -90,7 +90,8 @@ fn columns_from<'a>(
     alloc: Global,
     names: &[&'a str],
 ) -> Result<Result<Vec<Column>, UnknownColumn<'a>>, AllocError>
-    ensures { IfOk result (λ found. columns_seen found ≡ columns_from (names_seen names.entry.now)) }
+    ensures { IfOk result (λ found.
+        columns_seen found ≡ columns_from (names_seen names.entry.now)) }
 {
     let mut columns = Vec::new(alloc);
     for name in names {
